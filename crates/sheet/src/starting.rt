@@ -16,7 +16,7 @@ pub fn lay_fresh(
     table: &mut [u32],
     d: &mut [u32],
 ) -> Solver
-    requires { FreshRoom limits.variables (length a.old) (length b.old) (length table.old) }
+    requires { FreshRoom limits.variables (length table.old) }
     ensures { (result ≡ counters limits) × RepresentsInAreas result (areas a.new b.new records.new table.new d.new) fresh }
 {
     records.fill(0);

@@ -2,8 +2,10 @@
 -- module NAMEContract has what the contracts of the module of the code of that name say, or of the modules that it
 -- serves. No promise rests on these.
 --   Bindings               bindings that the areas and a table hold
+--   ChainEnds              the end of a chain as a value of the code
 --   CongruenceClasses      classes of token places
 --   ConstrainContract      one check of `constrain` on what is lent
+--   Halves                 words as halves
 --   Lent                   what lent bindings say
 --   MethodContract         what the methods say of the counters and the table
 --   OrderTerms             terms that follow the tokens of a session; what is resolved
@@ -16,8 +18,10 @@
 --   TableLayout            where things stand in the table
 --   Worklist               marks, and a queue of what is marked
 pub mod Bindings
+pub mod ChainEnds
 pub mod CongruenceClasses
 pub mod ConstrainContract
+pub mod Halves
 pub mod Lent
 pub mod MethodContract
 pub mod OrderTerms

@@ -9,7 +9,7 @@ ghost use Rattle.solver.specs.Words.Worklist.{Zero};
 ghost use Rattle.solver.specs.Words.SessionRepresentation.{limits_of, binding_words, Represents};
 ghost use Rattle.solver.specs.Words.OrderTerms.{Asked, Starts, Frames, resolved_to};
 
-use super::resolving::{clear_words, resolved_len, write_resolved};
+use super::resolving::{clear_words, default_of, resolved_len, write_builtin, write_resolved};
 use super::{Bindings, Solver, Start, Subject};
 use terms::{Refusal, Token, Tokens, token_len, write_token};
 
@@ -63,8 +63,11 @@ impl Solver {
                 let Some(most) = self.revision.checked_sub(1) else {
                     return Start::Free(v);
                 };
-                let word = tables[v as usize] as usize;
-                let Some(p) = word.checked_sub(1) else {
+                let word = tables[v as usize];
+                if let Some(b) = default_of(word) {
+                    return Start::Default(b);
+                }
+                let Some(p) = (word as usize).checked_sub(1) else {
                     return Start::Free(v);
                 };
                 Start::Begins(p, most)
@@ -99,6 +102,7 @@ impl Solver {
                 }
                 size
             }
+            Start::Default(_) => Some(2).filter(|n| *n <= limit as usize),
             Start::Free(v) => Some(variable_len(v)).filter(|n| *n <= limit as usize),
         }
     }
@@ -127,6 +131,7 @@ impl Solver {
                 let bindings = self.bindings(*tokens, tables, most);
                 write_resolved(&bindings, work, p, out, to)
             }
+            Start::Default(b) => write_builtin(out, to, b),
             Start::Free(v) => write_variable(out, to, v),
         }
     }

@@ -1,5 +1,4 @@
-// Orders 3, 6 and 7: deferrals and defaults. The builtin with the code c stands at 2 * c of the areas. Kinds are numbers: the line in kinds.rt
-// of terms says why.
+// Orders 3, 6 and 7: deferrals and defaults.
 ghost use Rattle.std.specs.Prelude.{Some, unwrap_or, ◌≡◌, ℕ, ◌+◌, ◌*◌, ◌^◌, ◌≤◌, ◌<◌, length, take};
 ghost use Rattle.std.specs.Int.NonZero.{non_zero_u32_get};
 ghost use Rattle.std.proofs.Math.Option.{Option};
@@ -15,9 +14,9 @@ ghost use Rattle.solver.specs.Words.MethodContract.{Shaped, Beside, Low, EndsAt,
 
 use super::families::{family_mask, has};
 use super::layout::DEFERRALS;
-use super::resolving::named_run;
-use super::top::shallow_resolve;
-use super::{Builtin, Defaulted, Solver, Table};
+use super::resolving::{default_of, named_run};
+use super::top::{shallow_resolve, variable_of};
+use super::{Builtin, ChainEnd, Defaulted, Solver, Table};
 use std::num::NonZeroU32;
 use terms::Tokens;
 
@@ -33,14 +32,15 @@ pub fn root_of(tokens: &Tokens, bound: &[u32], most: usize, v: usize) -> Option<
     if most == 0 {
         return Some(v);
     }
-    let Some(run) = named_run(tokens, bound[v] as usize) else {
-        return Some(v);
-    };
-    let q = shallow_resolve(tokens, bound, most - 1, run.at);
-    if tokens.kinds[q] != 1 {
+    let word = bound[v];
+    if default_of(word).is_some() {
         return None;
     }
-    let w = tokens.vals[q] as usize;
+    let Some(run) = named_run(tokens, word as usize) else {
+        return Some(v);
+    };
+    let end = shallow_resolve(tokens, bound, most - 1, run.at);
+    let w = variable_of(tokens, end)? as usize;
     (w < bound.len()).then_some(w)
 }
 
@@ -117,9 +117,9 @@ impl Solver {
     {
         let m = self.variables;
         let most = self.revision;
-        let q = shallow_resolve(tokens, &tables[..m], most, self.top);
-        if tokens.kinds[q] == 1 {
-            let v = tokens.vals[q] as usize;
+        let end = shallow_resolve(tokens, &tables[..m], most, self.top);
+        if let Some(w) = variable_of(tokens, end) {
+            let v = w as usize;
             if v < m {
                 tables[DEFERRALS * m + v] = 1;
             }
@@ -156,7 +156,7 @@ impl Solver {
             return self;
         };
         let taken = default_builtin(word, table.end_word(w, which));
-        tables[w] = 2 * taken.code + 1;
+        tables[w] = ChainEnd::Default(taken).word();
         self.revision = most + 1;
         self
     }

@@ -7,11 +7,12 @@ ghost use Rattle.terms.specs.Term.{Term, Held};
 ghost use Rattle.solver.specs.Families.{belongs};
 ghost use Rattle.solver.specs.Constrain.{Requests, admit};
 ghost use Rattle.solver.specs.Session.{Session, with_solver};
+ghost use Rattle.solver.specs.Words.ChainEnds.{HeldEnd, Inside};
 ghost use Rattle.solver.specs.Words.SessionRepresentation.{request_words, bit, RequestWord, request_in, HeldRequest, Represents};
 ghost use Rattle.solver.specs.Words.MethodContract.{Shaped, Beside, is_some, bound_to, at_most, word_of, mask_in, joined_word, Handed};
 ghost use Rattle.solver.specs.Words.TableLayout.{lasting_words};
 
-use super::{Solver, Table};
+use super::{ChainEnd, Solver, Table};
 use std::num::NonZeroU32;
 use terms::Tokens;
 
@@ -64,16 +65,22 @@ pub fn in_family(tokens: &Tokens, q: usize, word: u32) -> bool
         && has(family_mask(word), tokens.vals[q + 1])
 }
 
-// Whether the unbound variable v may be bound to the term at q, which is an unbound variable or a node.
-pub fn admissible(tokens: &Tokens, table: &Table, v: u32, q: usize) -> bool
-    requires { q < length tokens.now.kinds.now }
+// Whether the unbound variable v may be bound to the end q, which is an unbound variable or a node. Its two callers know the kind of end,
+// so it is taken into them: apart, short scripts took 0.2% more instructions.
+#[inline(always)]
+pub fn admissible(tokens: &Tokens, table: &Table, v: u32, q: ChainEnd) -> bool
+    requires { Inside (length tokens.now.kinds.now) q }
     ensures { (t : Term) (rs : Requests)
         → ((u : ℕ) → HeldRequest (rs u) (get_or (request_words table.now.variables table.now.words.now) u 0))
-        → Held tokens.now.kinds.now tokens.now.vals.now q t
+        → HeldEnd tokens.now.kinds.now tokens.now.vals.now t q
         → result ≡ is_some (admit rs (rs v) t) }
 {
     let Some(word) = table.request(v) else {
         return true;
+    };
+    let q = match q {
+        ChainEnd::At(p) => p,
+        ChainEnd::Default(b) => return has(family_mask(word.get()), b.code),
     };
     if tokens.kinds[q] != 1 {
         return in_family(tokens, q, word.get());
@@ -116,14 +123,14 @@ pub fn propagate_request(tables: &mut [u32], m: usize, v: usize, kind: u32, val:
 }
 
 impl Solver {
-    // Binds the unbound variable v to the term at q, which is admissible: its request is joined to that of the variable that it is bound to.
-    pub fn bind(mut self, tokens: &Tokens, tables: &mut [u32], v: u32, q: usize) -> Solver
+    // Binds the unbound variable v to the end q, which is admissible: its request is joined to that of the variable that it is bound to.
+    pub fn bind(mut self, tokens: &Tokens, tables: &mut [u32], v: u32, q: ChainEnd) -> Solver
         requires shape { Shaped self (length tables.old) }
-        requires areas { (v < self.variables) × (q < length tokens.now.kinds.now) × (length tokens.now.kinds.now < 2 ^ 32)
+        requires areas { (v < self.variables) × Inside (length tokens.now.kinds.now) q × (length tokens.now.kinds.now < 2 ^ 32)
             × (self.revision < 2 ^ 33) }
         ensures held { (s : Session) (t : Term) (rs : Requests)
             → Represents self tokens.now.kinds.now tokens.now.vals.now tables.old s
-            → Held tokens.now.kinds.now tokens.now.vals.now q t
+            → HeldEnd tokens.now.kinds.now tokens.now.vals.now t q
             → at_most self.variables t
             → admit s.solver.requests (s.solver.requests v) t ≡ some rs
             → Represents result tokens.now.kinds.now tokens.now.vals.now tables.new (with_solver s (bound_to s.solver v t rs)) }
@@ -132,8 +139,10 @@ impl Solver {
     {
         let m = self.variables;
         let at = v as usize;
-        propagate_request(tables, m, at, tokens.kinds[q], tokens.vals[q]);
-        tables[at] = (q + 1) as u32;
+        if let ChainEnd::At(p) = q {
+            propagate_request(tables, m, at, tokens.kinds[p], tokens.vals[p]);
+        }
+        tables[at] = q.word();
         self.revision += 1;
         self
     }

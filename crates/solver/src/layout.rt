@@ -11,6 +11,9 @@ pub const SLOTS: usize = 4;
 
 pub const DEFERRALS: usize = 5;
 
+// How many columns are in use; the words of the others, and those of steps and labels, are 0.
+pub const USED_COLUMNS: usize = 6;
+
 // How many columns there are.
 const COLUMNS: usize = 10;
 

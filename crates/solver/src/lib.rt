@@ -10,6 +10,7 @@ mod constrain;
 mod defaults;
 mod equality;
 mod families;
+mod halves;
 mod layout;
 mod pending;
 mod ranges;
@@ -65,6 +66,13 @@ pub struct Table<'a> {
     pub words: &'a [u32],
     pub variables: usize,
     ghost columns: { lasting_words variables ≤ length words.now },
+}
+
+// What a term stands for, bound variables followed: the term at a place, or the builtin that is a default.
+#[derive(Clone, Copy)]
+pub enum ChainEnd {
+    At(usize),
+    Default(Builtin),
 }
 
 // A pending pair: the places of its two terms.
@@ -156,10 +164,11 @@ pub enum Subject {
     Id(u32),
 }
 
-// Where resolving begins: at the term of a place, with so many bindings left to follow; or at a variable that stands for itself.
-#[derive(Clone, Copy, Debug, PartialEq, Eq)]
+// Where resolving begins: at the term of a place, with so many bindings left to follow; or at a default, or a variable that stands for itself.
+#[derive(Clone, Copy)]
 pub enum Start {
     Begins(usize, usize),
+    Default(Builtin),
     Free(u32),
 }
 

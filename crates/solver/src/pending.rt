@@ -2,7 +2,7 @@
 // its left place, and 65,536 times its right place. The words and the count are lent side by side, for the reason at `Table` in lib.rt.
 // Kinds are numbers: the line in kinds.rt of terms says why.
 // A place is put on as half a word, so `push_range` and `push_children` ask that the tokens are at most 65,536, and `decompose` asks it for them.
-// `same_shape` asks that they are fewer than 2 ^ 32, as `bind`, `bindings` and `union_classes` do. Neither is a fact of `Tokens`: the operations on terms
+// `same_shape` asks that they are fewer than 2 ^ 32, as `bind` and `bindings` do. Neither is a fact of `Tokens`: the operations on terms
 // need it nowhere, and would ask it of their callers. `Bindings` has the latter as a fact, but with words of variables, which these functions do not look at.
 ghost use Rattle.std.specs.Prelude.{Some, unwrap_or, ◌≡◌, [], ◌∷◌, not, ◌&&◌, ◌||◌, ℕ, ◌+◌, ◌*◌, ◌^◌, ◌≤◌, ◌<◌, eqb, length, get_or};
 ghost use Rattle.terms.specs.Term.{Parts, node, Held};

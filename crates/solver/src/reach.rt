@@ -10,12 +10,13 @@ ghost use Rattle.terms.specs.Term.{Term, Held};
 ghost use Rattle.solver.specs.Constrain.{resolve};
 ghost use Rattle.solver.specs.Constrain as solving;
 ghost use Rattle.solver.specs.Words.Bindings.{HeldBindings};
+ghost use Rattle.solver.specs.Words.ChainEnds.{HeldEnd};
 ghost use Rattle.solver.specs.Words.Worklist.{Zero, Work, Grown};
 ghost use Rattle.solver.specs.Words.ReachContract.{question_of, counts, has, run_of, Told, asked, Steady, Free};
 ghost use Rattle.solver.specs.Words.CongruenceClasses.{Clearing};
 
-use super::Run;
 use super::resolving::{named_run, run_at};
+use super::{ChainEnd, Run};
 use terms::Tokens;
 
 // What is asked for: an Unknown or Error, or a variable.
@@ -119,29 +120,35 @@ pub fn reaches(tokens: &Tokens, bound: &[u32], p: usize, want: Wanted, work: &mu
     hit
 }
 
-// Whether the unbound variable v is in the term at p, bound variables replaced.
-pub fn occurs(tokens: &Tokens, bound: &[u32], p: usize, v: u32, work: &mut [u32]) -> bool
+// Whether the unbound variable v is in the end q, bound variables replaced.
+pub fn occurs(tokens: &Tokens, bound: &[u32], q: ChainEnd, v: u32, work: &mut [u32]) -> bool
     requires scratch { (length bound.now + length bound.now ≤ length work.old) × Zero work.old }
     ensures term { (t : Term) (b : ℕ → Option Term) (n : ℕ)
-        → Held tokens.now.kinds.now tokens.now.vals.now p t
+        → HeldEnd tokens.now.kinds.now tokens.now.vals.now t q
         → HeldBindings tokens.now.kinds.now tokens.now.vals.now bound.now b
         → Steady n b
         → b v ≡ none
         → result ≡ solving.occurs v (resolve n b t) }
     ensures clear { Zero work.new }
 {
-    reaches(tokens, bound, p, Wanted::Variable(v), work)
+    match q {
+        ChainEnd::At(p) => reaches(tokens, bound, p, Wanted::Variable(v), work),
+        ChainEnd::Default(_) => false,
+    }
 }
 
-// Whether an Unknown or Error is in the term at p, bound variables replaced.
-pub fn recovers(tokens: &Tokens, bound: &[u32], p: usize, work: &mut [u32]) -> bool
+// Whether an Unknown or Error is in the end q, bound variables replaced.
+pub fn recovers(tokens: &Tokens, bound: &[u32], q: ChainEnd, work: &mut [u32]) -> bool
     requires scratch { (length bound.now + length bound.now ≤ length work.old) × Zero work.old }
     ensures term { (t : Term) (b : ℕ → Option Term) (n : ℕ)
-        → Held tokens.now.kinds.now tokens.now.vals.now p t
+        → HeldEnd tokens.now.kinds.now tokens.now.vals.now t q
         → HeldBindings tokens.now.kinds.now tokens.now.vals.now bound.now b
         → Steady n b
         → result ≡ solving.recovers (resolve n b t) }
     ensures clear { Zero work.new }
 {
-    reaches(tokens, bound, p, Wanted::Recovery, work)
+    match q {
+        ChainEnd::At(p) => reaches(tokens, bound, p, Wanted::Recovery, work),
+        ChainEnd::Default(_) => false,
+    }
 }

@@ -1,48 +1,30 @@
 // A session made and cleared, and the counters that an order is read by.
-// Kinds are numbers: the line in kinds.rt of terms says why.
 // Kinds and values that are written are lent as two slices: docs/DECISIONS.md, "How are the tokens lent?".
-ghost use Rattle.std.specs.Prelude.{◌≡◌, ℕ, ◌+◌, ◌<◌, length, replicate};
-ghost use Rattle.terms.specs.Term.{node, num, end, Held};
+ghost use Rattle.std.specs.Prelude.{◌≡◌, length, replicate};
 ghost use Rattle.solver.specs.Session.{Session, fresh};
 ghost use Rattle.solver.specs.Words.SessionsContract.{Holds, counters, FreshRoom};
 
-use super::layout::lasting_words;
+use super::layout::USED_COLUMNS;
 use super::resolving::clear_words;
 use super::{Limits, Solver, Standing};
-
-// Stores the 32 builtins, two tokens each.
-fn store_builtins(a: &mut [u32], b: &mut [u32])
-    requires { (length a.old ≡ 64) × (length b.old ≡ 64) }
-    ensures { (c : ℕ) → c < 32 → Held a.new b.new (c + c) (node 4 (num c end)) }
-{
-    for n in 0..32 {
-        let at = n + n;
-        let next = at + 1;
-        a[at] = 6;
-        a[next] = 0;
-        b[at] = 2;
-        b[next] = n as u32;
-    }
-}
 
 impl Solver {
     // A fresh session, whatever the areas held.
     pub fn fresh(limits: Limits, a: &mut [u32], b: &mut [u32], tables: &mut [u32]) -> Solver
-        requires { FreshRoom limits.variables (length a.old) (length b.old) (length tables.old) }
+        requires { FreshRoom limits.variables (length tables.old) }
         ensures counters { result ≡ counters limits }
         ensures holds { Holds (counters limits) a.new b.new tables.new fresh }
     {
         a.fill(0);
         b.fill(0);
         tables.fill(0);
-        store_builtins(&mut a[..64], &mut b[..64]);
         Solver {
             variables: limits.variables,
             nodes: limits.nodes,
             issued: 0,
             revision: 0,
             kept: 0,
-            top: 64,
+            top: 0,
         }
     }
 
@@ -55,7 +37,7 @@ impl Solver {
     {
         clear_words(a, self.top);
         clear_words(b, self.top);
-        clear_words(tables, lasting_words(self.variables));
+        clear_words(tables, USED_COLUMNS * self.variables);
     }
 
     // The counters that an order is read by.

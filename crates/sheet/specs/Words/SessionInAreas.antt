@@ -6,7 +6,8 @@ use Rattle.solver.specs.Session.{Session}
 use Rattle.solver.specs.Words.SessionRepresentation.{Represents, limits_of}
 use Rattle.solver.specs.Words.Worklist.{Zero}
 use Rattle.solver.specs.Words.ConstrainContract.{pending_from}
-use Rattle.solver.specs.Words.SessionsContract.{table_words}
+use Rattle.solver.specs.Words.Halves.{half_words}
+use Rattle.solver.specs.Words.TableLayout.{table_words}
 use Rattle.sheet.specs.Sheet.{Step, order_of, framed}
 use Rattle.sheet.specs.Words.FramingContract.{Output, Wrote}
 
@@ -30,23 +31,33 @@ pub record RepresentsInAreas (x : Solver) (m : Areas) (s : Session) : Type 0 whe
   pub front : Zero m.records
   pub blank : Zero (drop (pending_from x) m.table)
   pub work : Zero m.d
-  -- the builtins have 64 tokens, and a node has at most six
-  pub few : x.top ≤ 64 + 6 * x.kept
+  -- a node has at most six tokens
+  pub few : x.top ≤ 6 * x.kept
 
--- The areas have so many words, and that is enough for the limits of x: 64 tokens of builtins and six for each node, with a few more for the
--- heads of bare nominals; 8,192 records of normalising before the table and in d; a word a pending pair after the columns; in d a word a token
--- and one a node.
+-- So many words an area are enough for these limits. As the layout is now, the last two follow from those before them; each of the five is cited where what
+-- it stands for is asked, so that one that is too small is refused there.
+pub record Roomy (variables nodes words : ℕ) : Type 0 where
+  -- in a and b eight tokens for each node, as ids of two tokens take: the places of a pair are few (`few` of `Scratch`)
+  pub tokens : 8 * nodes ≤ words
+  -- ids of one token take six, and a few more for the heads of bare nominals: room to read an order (`OrderRoom`)
+  pub nominals : 6 * nodes + 16 ≤ words
+  -- in c, behind 8,192 records of normalising, the table with a word for each pending pair (`pairs` of `Scratch`)
+  pub table : 8192 + table_words variables nodes ≤ words
+  -- in d half a word for each token, and a word for each node: links and queue of equality (`links` of `Scratch`)
+  pub links : half_words (8 * nodes) + nodes ≤ words
+  -- in d two words for each variable: marks and queue, and the frames of a walk (`marks` of `Scratch`, `Frames`)
+  pub marks : variables + variables ≤ words
+
+-- The areas have so many words, and that is enough for the limits of x. Besides, order 19 numbers what it reads by 32 bits, and the rules of order 20 stand in
+-- an array of 6,144 words.
 pub record AreasSuffice (x : Solver) (words : ℕ) (m : Areas) : Type 0 where
   pub a_size : length m.a ≡ words
   pub b_size : length m.b ≡ words
   pub c_size : length m.records + length m.table ≡ words
   pub d_size : length m.d ≡ words
-  pub tokens : 64 + 6 * x.nodes + 16 ≤ words
+  pub roomy : Roomy x.variables x.nodes words
+  pub records : length m.records ≡ 8192
   pub few : words ≤ 32768
-  pub records : 8192 ≤ length m.records
-  pub table : table_words x ≤ length m.table
-  pub links : 64 + 6 * x.nodes + 16 + (32 + x.nodes) ≤ words
-  pub marks : x.variables + x.variables ≤ words
   pub rules : x.nodes ≤ 2048
 
 -- A step of the definition taken, with the output w before it and v after it: its answer whole, with its effect, or nothing at all. The position

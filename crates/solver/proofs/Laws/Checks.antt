@@ -8,6 +8,7 @@
 --   RowsInStepLaws     two rows walked in step
 --   PushLaws           children put on in pairs
 --   CheckStepWords     what a check leaves, each way it can end
+--   DefaultCheckLaws   a check where one of two tops is a builtin
 --   CheckContractLaws  what `unify_variable`, `decompose` and `check_pair` ask of the words, and what their answers
 --                      leave
 --   PairLoopLaws       the loop of `constrain`: what it carries from check to check
@@ -21,6 +22,7 @@ pub mod StackLaws
 pub mod RowsInStepLaws
 pub mod PushLaws
 pub mod CheckStepWords
+pub mod DefaultCheckLaws
 pub mod CheckContractLaws
 pub mod PairLoopLaws
 pub mod PosedLaws

@@ -6,7 +6,7 @@
 --   PlaceSearchLaws     a search from the last variable down, and the one that it finds
 --   ChainLaws           the end of a chain of bindings; deferrals and defaults
 --   AdmitLaws           what a number variable may be bound to, by tokens and words; a binding made
---   OrderTermLaws       terms after the tokens of a session; where resolving begins
+--   OrderTermLaws       terms after the tokens of a session
 --   SessionsLaws        a session alone in its areas: fresh, and cleared
 pub mod ColumnLaws
 pub mod RequestWordLaws

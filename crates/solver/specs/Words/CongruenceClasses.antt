@@ -1,10 +1,13 @@
--- Classes of token places, as `same_terms` keeps them: a word for each place, 0 where the place heads its class, and else y + 1 for a lower
--- place y of the same class; and a queue of the places that have been linked below another, in the order in which that happened.
+-- Classes of token places, as `same_terms` keeps them: half a word for each place, 0 where the place heads its class, and else y + 1 for a lower
+-- place y of the same class; and a queue of the places that have been linked below another, in the order in which that happened: a word for each, with the
+-- place in its low half, and in the high half the place that it is linked to. Here `par` are the halves of the links.
 use Rattle.std.specs.Prelude.{Bool, true, List, ◌≡◌, ℕ, ◌+◌, ◌≤◌, ◌<◌, length, get_or}
 use Rattle.std.proofs.Math.Option.{Option}
 use Rattle.terms.specs.Term.{Term, Parts, var, node, end, num, sub, Held}
 use Rattle.solver.specs.declared.Bindings.{Bindings}
 use Rattle.solver.specs.Constrain.{replace, replace_row, resolve, follow}
+use Rattle.solver.specs.Words.Bindings.{builtin}
+use Rattle.solver.specs.Words.Halves.{low_half, high_half}
 use Rattle.solver.specs.Words.Lent.{Binds}
 use Rattle.solver.specs.Words.ReachContract.{Steady, Topped}
 use Rattle.solver.specs.Words.SessionRepresentation.{begins}
@@ -12,16 +15,19 @@ use Rattle.solver.specs.Words.SessionRepresentation.{begins}
 -- ---- the words, whatever the tokens are
 
 pub record Wired (ks par queue : List ℕ) (top : ℕ) : Type 0 where
-  pub size : length par ≡ length ks
+  -- one half may be over
+  pub size : length ks ≤ length par
+  -- a link is half a word
+  pub small : length ks ≤ 65536
   pub room : begins ks ≤ length queue
   -- a place is linked below a lower one: going up ends
   pub falls : (x : ℕ) → get_or par x 0 ≤ x
   -- only nodes are linked, and below nodes
   pub nodes : (x y : ℕ) → get_or par x 0 ≡ y + 1 → (2 ≤ get_or ks x 0) × (2 ≤ get_or ks y 0)
   -- the queue lists the places that are linked, each once
-  pub listed : (i : ℕ) → i < top → (get_or queue i 0 < length par) × (0 < get_or par (get_or queue i 0) 0)
-  pub apart : (i j : ℕ) → i < j → j < top → get_or queue i 0 ≡ get_or queue j 0 → ⊥
-  pub cover : (x : ℕ) → 0 < get_or par x 0 → (i : ℕ) × (i < top) × (get_or queue i 0 ≡ x)
+  pub listed : (i : ℕ) → i < top → (low_half (get_or queue i 0) < length par) × (get_or par (low_half (get_or queue i 0)) 0 ≡ high_half (get_or queue i 0) + 1)
+  pub apart : (i j : ℕ) → i < j → j < top → low_half (get_or queue i 0) ≡ low_half (get_or queue j 0) → ⊥
+  pub cover : (x : ℕ) → 0 < get_or par x 0 → (i : ℕ) × (i < top) × (low_half (get_or queue i 0) ≡ x)
   pub blank : (i : ℕ) → top ≤ i → get_or queue i 0 ≡ 0
 
 -- what was linked still is, to the same place
@@ -40,6 +46,13 @@ pub record Clearing (par queue : List ℕ) (k : ℕ) : Type 0 where
   pub fits : k ≤ length queue
   pub inside : (i : ℕ) → i < k → get_or queue i 0 < length par
   pub hung : (z : ℕ) → 0 < get_or par z 0 → (i : ℕ) × (i < k) × (get_or queue i 0 ≡ z)
+  pub gone : (i : ℕ) → k ≤ i → get_or queue i 0 ≡ 0
+
+-- the same where the queue lists places in low halves
+pub record Unlinking (par queue : List ℕ) (k : ℕ) : Type 0 where
+  pub fits : k ≤ length queue
+  pub inside : (i : ℕ) → i < k → low_half (get_or queue i 0) < length par
+  pub hung : (z : ℕ) → 0 < get_or par z 0 → (i : ℕ) × (i < k) × (low_half (get_or queue i 0) ≡ z)
   pub gone : (i : ℕ) → k ≤ i → get_or queue i 0 ≡ 0
 
 -- r is reached from a by going up
@@ -83,9 +96,10 @@ Pairwise J (sub t ps) end = ⊥
 Pairwise J (sub t ps) (num m qs) = ⊥
 Pairwise J (sub t ps) (sub u qs) = J t u × Pairwise J ps qs
 
--- the tops of t and u are one variable, or nodes whose places are in one class
+-- the tops of t and u are one variable, or one builtin, or nodes whose places are in one class
 pub data Linked (ks vs : List ℕ) (τ : Term → Term) (par : List ℕ) (t u : Term) : Type 0 where
   same_var : (v : ℕ) → τ t ≡ var v → τ u ≡ var v → Linked ks vs τ par t u
+  same_code : (c : ℕ) → τ t ≡ builtin c → τ u ≡ builtin c → Linked ks vs τ par t u
   same_class : (a b r : ℕ) → Held ks vs a (τ t) → Held ks vs b (τ u) → Up par a r → Up par b r → Linked ks vs τ par t u
 
 -- a place is linked below another only where both hold nodes with the same tag

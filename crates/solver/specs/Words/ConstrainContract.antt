@@ -6,6 +6,7 @@ use Rattle.terms.specs.Tree.{subs}
 use Rattle.solver.specs.declared.Solver.{Solver}
 use Rattle.solver.specs.declared.Checked.{Checked}
 use Rattle.solver.specs.declared.Solved.{Solved}
+use Rattle.solver.specs.declared.ChainEnd.{ChainEnd}
 use Rattle.unify.specs.Solver.{Out}
 use Rattle.solver.specs.Constrain as solving
 use Rattle.solver.specs.Constrain.{Pair, top}
@@ -16,6 +17,8 @@ use Rattle.solver.specs.Invariant.{InOrder}
 use Rattle.solver.specs.Words.SessionRepresentation.{Represents, limits_of, verdict_number}
 use Rattle.solver.specs.Words.PendingContract.{HeldPairs, PushedPairs}
 use Rattle.solver.specs.Words.Worklist.{Zero}
+use Rattle.solver.specs.Words.ChainEnds.{HeldEnd, Inside}
+use Rattle.solver.specs.Words.Halves.{half_words}
 use Rattle.solver.specs.Words.TableLayout.{lasting_words}
 
 -- the variables of a term, and of pairs, are below N
@@ -40,31 +43,33 @@ pub record Known (ks vs : List ℕ) (s : Session) (i : ℕ) (t : Term) : Type 0 
   pub held : Held ks vs i t
   pub within : Within (issued s) t
 
--- room for a pair: pending pairs after the columns; in the work area, all 0, a word a token and one a node, and two a variable; and every
--- place is below 65,536, so that two places are one word
+-- room for a pair: pending pairs after what lasts; in the work area, all 0, half a word a token and a word a node, and two a variable; and every place is
+-- below 65,536, so that two places are one word
 pub record Scratch (x : Solver) (ks ts work : List ℕ) : Type 0 where
-  pub pairs : pending_from x + (32 + x.nodes) ≤ length ts
+  pub pairs : pending_from x + x.nodes ≤ length ts
   pub few : length ks ≤ 65536
-  pub links : length ks + (32 + x.nodes) ≤ length work
+  pub links : half_words (length ks) + x.nodes ≤ length work
   pub marks : x.variables + x.variables ≤ length work
   pub clear : Zero work
 
 -- the same room for a check, the pending pairs being st
 pub record CheckRoom (x : Solver) (ks st work : List ℕ) : Type 0 where
-  pub pairs : 32 + x.nodes ≤ length st
+  pub pairs : x.nodes ≤ length st
   pub few : length ks ≤ 65536
-  pub links : length ks + (32 + x.nodes) ≤ length work
+  pub links : half_words (length ks) + x.nodes ≤ length work
   pub marks : x.variables + x.variables ≤ length work
   pub clear : Zero work
 
--- the unbound variable v faces the term t at q
-pub record Facing (x : Solver) (ks vs ts : List ℕ) (s : Session) (v q : ℕ) (t : Term) : Type 0 where
+-- the unbound variable v faces the term t, which is the end q
+pub record Facing (x : Solver) (ks vs ts : List ℕ) (s : Session) (v : ℕ) (q : ChainEnd) (t : Term) : Type 0 where
   pub represents : Represents x ks vs ts s
   pub steady : Steady s.solver.revision s.solver.bindings
   pub counted : s.solver.revision ≤ issued s
   pub free : s.solver.bindings v ≡ none
   pub low : v < issued s
-  pub known : Known ks vs s q t
+  pub inside : Inside (length ks) q
+  pub held : HeldEnd ks vs t q
+  pub within : Within (issued s) t
 
 -- the nodes t and u stand at a and b, and there is room for the pairs of their children
 pub record Nodes (x : Solver) (ks vs : List ℕ) (a b count : ℕ) (t u : Term) : Type 0 where
@@ -76,7 +81,21 @@ pub record Nodes (x : Solver) (ks vs : List ℕ) (a b count : ℕ) (t u : Term) 
   pub right : u ≡ node other behind
   pub at_left : Held ks vs a t
   pub at_right : Held ks vs b u
-  pub room : count + length (subs row) ≤ 32 + x.nodes
+  pub room : count + length (subs row) ≤ x.nodes
+
+-- the nodes t and u are the ends a and b, and there is room for the pairs of their children
+pub record Met (x : Solver) (ks vs : List ℕ) (a b : ChainEnd) (count : ℕ) (t u : Term) : Type 0 where
+  pub tag : ℕ
+  pub row : Parts
+  pub left : t ≡ node tag row
+  pub other : ℕ
+  pub behind : Parts
+  pub right : u ≡ node other behind
+  pub inside_left : Inside (length ks) a
+  pub inside_right : Inside (length ks) b
+  pub at_left : HeldEnd ks vs t a
+  pub at_right : HeldEnd ks vs u b
+  pub room : count + length (subs row) ≤ x.nodes
 
 -- the pair of t at i and u at j is next, with `count` pairs pending below it
 pub record Due (x : Solver) (ks vs ts : List ℕ) (s : Session) (i j count : ℕ) (t u : Term) : Type 0 where
@@ -84,7 +103,7 @@ pub record Due (x : Solver) (ks vs ts : List ℕ) (s : Session) (i j count : ℕ
   pub ordered : InOrder (issued s) s.solver
   pub left : Known ks vs s i t
   pub right : Known ks vs s j u
-  pub room : (k : ℕ) (row : Parts) → top s.solver t ≡ node k row → count + length (subs row) ≤ 32 + x.nodes
+  pub room : (k : ℕ) (row : Parts) → top s.solver t ≡ node k row → count + length (subs row) ≤ x.nodes
 
 -- what is pending after a check: what was, or the pairs of the children of two nodes as well
 abbrev pub Stays : (st₀ st : List ℕ) (count r : ℕ) → Type 0

@@ -1,5 +1,5 @@
 -- What lent bindings say: definitions of this folder and of crate terms, of one value.
-use Rattle.std.specs.Prelude.{List, ℕ}
+use Rattle.std.specs.Prelude.{List, ℕ, ◌-◌, ◌≤◌, ◌<◌, length}
 use Rattle.std.proofs.Math.Option.{Option}
 use Rattle.terms.specs.Term.{Term, Parts, Held}
 use Rattle.terms.specs.Words.Held.{HeldParts}
@@ -8,7 +8,7 @@ use Rattle.solver.specs.declared.Bindings.{Bindings}
 use Rattle.solver.specs.declared.Run.{Run}
 use Rattle.solver.specs.declared.Stand.{Stand}
 use Rattle.solver.specs.Words.Bindings.{HeldBindings}
-use Rattle.solver.specs.Words.ResolveWalk.{walked, flat_bytes, resolved_bytes}
+use Rattle.solver.specs.Words.ResolveWalk.{walked, flat_bytes, standing_at, resolved_bytes}
 use Rattle.solver.specs.Words.ResolveFrames.{Settled}
 
 -- the term t is at p, and the parts ps are that part of the tokens
@@ -28,6 +28,14 @@ walked_bytes x r = flat_bytes (walked x.tokens.kinds.now x.tokens.vals.now x.bou
 
 abbrev pub resolved_bytes_at : Bindings → ℕ → List ℕ
 resolved_bytes_at x p = resolved_bytes x.tokens.kinds.now x.tokens.vals.now x.bound.now x.most p
+
+-- a walk has come to a token that is not entered; and the bytes of what stands there
+pub record Passed (x : Bindings) (c : Stand) : Type 0 where
+  pub within : c.at < length x.tokens.kinds.now
+  pub depth : c.depth ≤ x.most
+
+abbrev pub standing_bytes : Bindings → Stand → List ℕ
+standing_bytes x c = flat_bytes (standing_at x.tokens.kinds.now x.tokens.vals.now x.bound.now (x.most - c.depth) c.at)
 
 -- after `settle`, from the frames and the place of before
 abbrev pub WalkSettled : Bindings → (st₀ : List ℕ) → Stand → (st : List ℕ) → Stand → Type 0

@@ -8,10 +8,11 @@ use Rattle.solver.specs.declared.PlaceWords.{PlaceWords}
 use Rattle.solver.specs.declared.Subject.{Subject}
 use Rattle.solver.specs.declared.Subject.TheVariants.{Follows, Id}
 use Rattle.solver.specs.declared.Start.{Start}
-use Rattle.solver.specs.declared.Start.TheVariants.{Begins, Free}
+use Rattle.solver.specs.declared.Start.TheVariants.{Begins, Default, Free}
 use Rattle.solver.specs.Constrain.{resolve, resolved}
 use Rattle.solver.specs.Session.{Session, VariablePlace, at, gap, issued}
 use Rattle.solver.specs.Invariant.{InOrder}
+use Rattle.solver.specs.Words.Bindings.{defaults, builtin}
 use Rattle.solver.specs.Words.SessionRepresentation.{Represents}
 use Rattle.solver.specs.Words.Worklist.{Zero}
 
@@ -23,7 +24,7 @@ pub record Behind (x : Solver) (ks vs ts : List ℕ) (z : Session) : Type 0 wher
   pub represents : Represents x (take x.top ks) (take x.top vs) ts z
   pub inside : x.top ≤ length ks
   pub pairs : length vs ≡ length ks
-  pub short : length ks < 2 ^ 32
+  pub short : length ks < defaults
 
 -- orders 3 and 5: the term t follows, its variables issued, and its nodes may be kept
 pub record Poses (x : Solver) (ks vs ts : List ℕ) (z : Session) (t : Term) : Type 0 where
@@ -65,9 +66,10 @@ Asked x ks vs ts (Id v) z t = Represents x ks vs ts z × (t ≡ var v) × (v < x
 abbrev pub resolved_to : Session → Term → List ℕ
 resolved_to z t = bytes (resolved z.solver t)
 
--- resolving t begins at the term at p, with m bindings left to follow, or t is a variable that stands for itself
+-- resolving t begins at the term at p, with m bindings left to follow, or t resolves to a builtin, or is a variable that stands for itself
 abbrev pub Starts : (x : Solver) (ks vs : List ℕ) → Session → Term → Start → Type 0
 Starts x ks vs z t (Begins p m) = (u : Term) × Held ks vs p u × (resolved z.solver t ≡ resolve m z.solver.bindings u) × (m ≤ x.revision) × (p < 2 ^ 32)
+Starts x ks vs z t (Default b) = (b.code < 32) × (resolved z.solver t ≡ builtin b.code)
 Starts x ks vs z t (Free v) = resolved z.solver t ≡ var v
 
 -- frames for resolving, two words a binding, all 0

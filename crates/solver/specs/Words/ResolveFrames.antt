@@ -1,8 +1,8 @@
 -- Where a walk stands: the place that it has come to, and the runs that wait while a bound variable's run is walked.
 use Rattle.std.specs.Prelude.{ℕ, zero, suc, ◌+◌, ◌-◌, ◌≤◌, ◌<◌, ◌≡◌, List, [], ◌∷◌, ◌++◌, length, get_or}
-use Rattle.terms.specs.Words.Tokens.{Item, item, spell, one}
+use Rattle.terms.specs.Words.Tokens.{Item, spell, one}
 use Rattle.solver.specs.declared.Stand.{Stand}
-use Rattle.solver.specs.Words.ResolveWalk.{walk}
+use Rattle.solver.specs.Words.ResolveWalk.{walk, standing_at}
 
 -- what d waiting runs hold: run j goes from st at 2j up to st at 2j + 1, with n - j variables left to enter
 unfoldable pub pend : {A : Type 0} → (ℕ → ℕ → ℕ → List A) → ℕ → List ℕ → List ℕ → List ℕ → ℕ → List A
@@ -37,11 +37,11 @@ Apart n st₀ st = (j : ℕ) → n + n ≤ j → get_or st j 0 ≡ get_or st₀ 
 abbrev pub Bare : ℕ → List ℕ → Type 0
 Bare n st = (j : ℕ) → n ≤ j → get_or st j 0 ≡ 0
 
--- what is left begins with the token at the place, which stands for itself, or is over, and then no run waits
+-- what is left begins with the token at the place, which is not entered, or is over, and then no run waits
 pub record Ready (ks vs bs : List ℕ) (n : ℕ) (st : List ℕ) (x : Stand) : Type 0 where
   pub sound : Sound ks n st x
   pub head : x.at < x.end
-      → left ks vs bs n st x ≡ item (get_or ks x.at 0) (get_or vs x.at 0) ∷ left ks vs bs n st (stand (x.at + 1) x.end x.depth)
+      → left ks vs bs n st x ≡ standing_at ks vs bs (n - x.depth) x.at ++ left ks vs bs n st (stand (x.at + 1) x.end x.depth)
   pub over : x.end ≤ x.at → left ks vs bs n st x ≡ []
   pub alone : x.end ≤ x.at → x.depth ≡ 0
 

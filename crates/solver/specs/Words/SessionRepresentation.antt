@@ -1,6 +1,6 @@
 -- A session as the counters, the two token areas and a table hold it. The table has columns of m words (`TableLayout`), m being the limit of variables, a
 -- word of each for every variable:
---   0 binding    0 for none, p + 1 for the term at p
+--   0 binding    0 for none, p + 1 for the term at p, 2147483648 + c for the builtin with the code c
 --   1 request    0 for none, c + 1 for the plain request with the fallback code c; where a range took part 33 + c + 32 * m, with bit n of m for each
 --                type admitted whose code is n
 --   2 place      0 for a variable that is not issued, 1 for a site and slot, 2 for a hole
@@ -9,18 +9,16 @@
 --   5 deferral   0 or 1
 --   6 to 9, and what follows the columns up to the pending pairs: not used yet, 0
 -- So every word of these is fixed. The rest of the table is scratch.
-use Rattle.std.specs.Prelude.{Bool, true, false, List, [], ◌∷◌, ◌++◌, ◌≡◌, ℕ, zero, suc, ◌+◌, ◌-◌, ◌*◌, ◌/◌, ◌%◌, ◌^◌, ◌≤◌, ◌<◌, eqb, ltb, length, get_or, take, drop}
+use Rattle.std.specs.Prelude.{Bool, true, false, List, [], ◌∷◌, ◌≡◌, ℕ, ◌+◌, ◌-◌, ◌*◌, ◌/◌, ◌%◌, ◌^◌, ◌≤◌, ◌<◌, eqb, ltb, length, get_or, take, drop}
 use Rattle.std.proofs.Math.Option.{Option, none, some}
 use Rattle.terms.specs.Result.{pick}
-use Rattle.terms.specs.Words.Tokens.{Item}
-use Rattle.terms.specs.Term.{node, num, end, items, Held}
 use Rattle.solver.specs.declared.Solver.{Solver}
 use Rattle.solver.specs.declared.Verdict.{Verdict}
 use Rattle.solver.specs.declared.Verdict.TheVariants.{Incompatible, Compatible, Cancelled}
 use Rattle.solver.specs.Families.{Numeric, I8, I16, I32, I64, U8, U16, U32, U64, F32, F64, code, Family, integers, sieve, Request, requested}
 use Rattle.solver.specs.Session.{Limits, VariablePlace, at, gap, Session, issued}
 use Rattle.solver.specs.Invariant.{WithinLimits}
-use Rattle.solver.specs.Words.Bindings.{HeldBindings}
+use Rattle.solver.specs.Words.Bindings.{defaults, HeldBindings}
 use Rattle.solver.specs.Words.TableLayout.{requests_from, places_from, sites_from, slots_from, deferrals_from, unused_from, unused_count, lasting_words}
 use Rattle.solver.specs.Words.Worklist.{Zero}
 
@@ -115,11 +113,6 @@ unfoldable pub begins : List ℕ → ℕ
 begins [] = 0
 begins (k ∷ ks) = pick (eqb k 0) 0 1 + begins ks
 
--- the tokens of the first n builtins, which stand at the start of the areas: a head of tag 4 and span 2, and the builtin's code
-unfoldable pub builtin_tokens : ℕ → List Item
-builtin_tokens zero = []
-builtin_tokens (suc n) = builtin_tokens n ++ items (node 4 (num n end))
-
 -- the counters x, the areas and the table hold the session s
 pub record Represents (x : Solver) (ks vs ts : List ℕ) (s : Session) : Type 0 where
   pub issued : x.issued ≡ issued s
@@ -127,7 +120,7 @@ pub record Represents (x : Solver) (ks vs ts : List ℕ) (s : Session) : Type 0 
   pub kept : x.kept ≡ s.kept
   pub top : x.top ≡ length ks
   pub vals : length vs ≡ length ks
-  pub short : length ks < 2 ^ 32
+  pub short : length ks < defaults
   pub narrow : x.variables < 2 ^ 32
   pub room : lasting_words x.variables ≤ length ts
   pub fits : WithinLimits (limits_of x) s
@@ -137,6 +130,5 @@ pub record Represents (x : Solver) (ks vs ts : List ℕ) (s : Session) : Type 0 
   pub unplaced : Unplaced (length s.places) (place_words x.variables ts) (site_words x.variables ts) (slot_words x.variables ts)
   pub deferred : (v : ℕ) → get_or (deferral_words x.variables ts) v 0 ≡ flag (s.deferred v)
   pub unused : Zero (unused_words x.variables ts)
-  -- the 32 builtins stand at the start of the areas, where a default finds them; the other terms are the kept ones
-  pub builtins : (c : ℕ) → c < 32 → Held ks vs (c + c) (node 4 (num c end))
-  pub begun : begins ks ≡ 32 + s.kept
+  -- the terms in the areas are the kept ones
+  pub begun : begins ks ≡ s.kept

@@ -1,5 +1,5 @@
 -- A session alone in the areas that the solver is lent.
-use Rattle.std.specs.Prelude.{List, ℕ, ◌+◌, ◌*◌, ◌^◌, ◌≤◌, ◌<◌, take, drop}
+use Rattle.std.specs.Prelude.{List, ℕ, ◌^◌, ◌≤◌, ◌<◌, take, drop}
 use Rattle.solver.specs.declared.Limits.{Limits}
 use Rattle.solver.specs.declared.Solver.{Solver}
 use Rattle.solver.specs.Session.{Session}
@@ -15,17 +15,11 @@ pub record Holds (x : Solver) (a b ts : List ℕ) (s : Session) : Type 0 where
   pub vals : Zero (drop x.top b)
   pub blank : Zero (drop (pending_from x) ts)
 
--- the counters of a fresh session: the 32 builtins take 64 tokens
+-- the counters of a fresh session
 abbrev pub counters : Limits → Solver
-counters limits = record { variables = limits.variables; nodes = limits.nodes; issued = 0; revision = 0; kept = 0; top = 64 }
+counters limits = record { variables = limits.variables; nodes = limits.nodes; issued = 0; revision = 0; kept = 0; top = 0 }
 
--- the words of a table: its columns, and one for each pair that can be pending
-abbrev pub table_words : Solver → ℕ
-table_words x = pending_from x + (32 + x.nodes)
-
--- areas and a table of so many words are enough for a fresh session
-pub record FreshRoom (variables a b ts : ℕ) : Type 0 where
-  pub kinds : 64 ≤ a
-  pub vals : 64 ≤ b
+-- a table of so many words is enough for a fresh session
+pub record FreshRoom (variables ts : ℕ) : Type 0 where
   pub narrow : variables < 2 ^ 32
   pub columns : lasting_words variables ≤ ts

@@ -29,3 +29,7 @@ unused_count m = 4 * m + (64 * 4 + 256 * 2)
 -- the words of a session: all that lasts from order to order. The pending pairs follow them.
 abbrev pub lasting_words : ℕ → ℕ
 lasting_words m = unused_from m + unused_count m
+
+-- the words of a table for so many variables and nodes: what lasts, and one for each pair that can be pending
+abbrev pub table_words : ℕ → ℕ → ℕ
+table_words m nodes = lasting_words m + nodes

@@ -27,6 +27,7 @@ use Rattle.solver.specs.TermTypes.{Rule}
 use Rattle.solver.specs.Orders.{Command, solver_of, keeps, order}
 use Rattle.solver.specs.Words.Worklist.{Zero}
 use Rattle.solver.specs.Words.ConstrainContract.{Scratch}
+use Rattle.solver.specs.Words.Halves.{half_words}
 use Rattle.solver.specs.Invariant.{InOrder}
 use Rattle.solver.specs.Words.SessionRepresentation.{Represents, limits_of}
 use Rattle.solver.proofs.Laws.Definition.SolverInvariantLaws.{within_known}
@@ -64,7 +65,7 @@ use Rattle.sheet.proofs.Laws.Reading.ReadOrderUseLaws as use-laws
 use Rattle.sheet.proofs.Laws.Reading.ReadOrderUseLaws.{order_long}
 use Rattle.sheet.proofs.Laws.Answering.TermOrderLaws as posing
 use Rattle.sheet.proofs.Laws.Answering.OperationStepLaws.{operation_step}
-use Rattle.sheet.proofs.Laws.Answering.SessionInAreasLaws.{solve_kept, answers_does, answers_bound, answers_quiet}
+use Rattle.sheet.proofs.Laws.Answering.SessionInAreasLaws.{reads_fit, places_few, links_fit, solve_kept, answers_does, answers_bound, answers_quiet}
 
 -- ---- the tokens up to a place, lent
 
@@ -102,10 +103,11 @@ pub ready_room : (x : Solver) (s a b r t d : List ℕ) (ws : List Rule) → Area
 ready_room x s a b r t d ws R h w =
     let Y = R.roomy in
     let L = R.in_areas in
+    let within : x.kept ≤ x.nodes = omega (arith, L.represents.fits.nodes, L.represents.kept) in
     record {
       bytes = h;
-      within = omega (arith, L.represents.fits.nodes, L.represents.kept);
-      tokens = omega (arith, Y.tokens, L.few, L.represents.fits.nodes, L.represents.kept);
+      within = within;
+      tokens = reads_fit x.top x.kept x.nodes (length a) Y.roomy.nominals L.few within;
       paired = Y.b_size;
       rules = λ e. ⊎_elim (λ v. inl (omega (arith, Y.rules))) inr (w e);
       short = omega (arith, Y.few);
@@ -225,7 +227,7 @@ module _ {x : Solver} {s : List ℕ} {m : Areas} {ts : Area} {ws : List Rule} {o
         record {
           pairs = omega (arith, a_long, b_long);
           short = omega (arith, a_long, R.few);
-          heads = R.records;
+          heads = omega (arith, R.records);
           kids = omega (arith, R.d_size, R.c_size, R.records);
           heads_zero = record { is = λ i h. L.front i };
           kids_zero = record { is = λ i h. L.work i };
@@ -299,7 +301,7 @@ module _ {x : Solver} {s : List ℕ} {m : Areas} {ts : Area} {ws : List Rule} {o
           represents = rw (cut_a, cut_b) Z.represents;
           inside = omega (arith, long_a, taken_after);
           pairs = taken_pairs;
-          short = omega (arith, long_a, T.whole.small);
+          short = omega (arith, long_a, taken_a, a_long, T.ready.roomy.few);
         }
 
     abbrev fs : List Field
@@ -377,7 +379,7 @@ module _ {x : Solver} {s : List ℕ} {m : Areas} {ts : Area} {ws : List Rule} {o
       pub pair_terms : (n : ℕ) × (t : Term) × (u : Term) × (fs ≡ value n ∷ tree t ∷ tree u ∷ [])
       pair_terms = two_terms fs (subst (λ (l : List FieldSort). FitsLayout l fs) (ap layout kind_pair ∙ pair_layout access) T.whole.fitting)
 
-      pair_few : o.top ≤ 64 + 6 * o.nodes
+      pair_few : o.top ≤ 6 * o.nodes
       unfolding spares spare
       pair_few =
           let g : length (all_items fs) ≤ 6 * all_nodes fs + 0
@@ -387,11 +389,12 @@ module _ {x : Solver} {s : List ℕ} {m : Areas} {ts : Area} {ws : List Rule} {o
       pub pair_scratch : Scratch x (take o.top ts.kinds) m.table m.d
       pair_scratch =
           let R = T.ready.roomy in
+          let long : length (take o.top ts.kinds) ≤ 6 * o.nodes = omega (arith, long_a, pair_few) in
           record {
-            pairs = R.table;
-            few = omega (arith, long_a, pair_few, W, R.tokens, R.few);
-            links = omega (arith, long_a, pair_few, W, R.links, R.d_size);
-            marks = omega (arith, R.marks, R.d_size);
+            pairs = omega (arith, R.roomy.table, R.records, R.c_size);
+            few = places_few (length (take o.top ts.kinds)) o.nodes x.nodes (length m.a) R.roomy.tokens R.few long W;
+            links = subst (λ (n : ℕ). half_words (length (take o.top ts.kinds)) + x.nodes ≤ n) (sym R.d_size) (links_fit (length (take o.top ts.kinds)) o.nodes x.nodes (length m.a) R.roomy.links long W);
+            marks = subst (λ (n : ℕ). x.variables + x.variables ≤ n) (sym R.d_size) R.roomy.marks;
             clear = T.ready.in_areas.work;
           }
 
@@ -450,7 +453,7 @@ module _ {x : Solver} {s : List ℕ} {m : Areas} {ts : Area} {ws : List Rule} {o
 
         -- where a variable was bound all of its nodes are kept
         pair_kept : (z : Session) → InOrder (issued z) z.solver → RepresentsInAreas x m z
-            → ((solve (limits_of x) z (orders.pair d n t u)).session.solver.revision ≡ z.solver.revision → ⊥) → o.top ≤ 64 + 6 * (solve (limits_of x) z (orders.pair d n t u)).session.kept
+            → ((solve (limits_of x) z (orders.pair d n t u)).session.solver.revision ≡ z.solver.revision → ⊥) → o.top ≤ 6 * (solve (limits_of x) z (orders.pair d n t u)).session.kept
         pair_kept z A Z h =
             let P = poses_pair z A Z in
             let e = posing.pair_step (limits_of x) d z n t u (within_known z t P.within_left) (within_known z u P.within_right) P.few in

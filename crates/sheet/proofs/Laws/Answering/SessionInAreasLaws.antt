@@ -3,7 +3,7 @@ use mathlib.Core.Path.{◌≡◌, sym, subst, ◌∙◌}
 use mathlib.Core.Bool.{Bool, true, false, ◌&&◌}
 use mathlib.Core.Option.{Option, none, some}
 use mathlib.Core.List.{List}
-use Prim.Native.Nat.{ℕ, ◌+◌, ◌*◌, ◌≤◌}
+use Prim.Native.Nat.{ℕ, ◌+◌, ◌-◌, ◌*◌, ◌≤◌}
 use native.Mathlib.Omega.{arith}
 use lib.ListN.{length, take, drop}
 use lib.Seq.{length-take-le}
@@ -17,6 +17,7 @@ use Rattle.solver.specs.Orders as orders
 use Rattle.solver.specs.Orders.{order, variable_step, number_at, hole_at, unless, known, crowded, full, posing, ◌gives◌}
 use Rattle.solver.specs.Words.Worklist.{Zero}
 use Rattle.solver.specs.Words.ConstrainContract.{pending_from}
+use Rattle.solver.specs.Words.Halves.{half_words}
 use Rattle.solver.specs.Words.SessionRepresentation.{Represents}
 use Rattle.solver.specs.Words.MethodContract.{Beside}
 use Rattle.sheet.specs.Sheet.{Step, solve}
@@ -30,10 +31,32 @@ use Rattle.sheet.proofs.Laws.Answering.SessionOrderLaws.{lent_revision}
 
 -- ---- room
 
+-- What is asked of room, by the inequality of `Roomy` that stands for it. These are facts of numbers, so that no other inequality is read for it.
+
+-- room to read an order
+pub reads_fit : (top kept nodes words : ℕ) → 6 * nodes + 16 ≤ words → top ≤ 6 * kept → kept ≤ nodes → top + 6 * (nodes - kept) + 8 ≤ words
+reads_fit top kept nodes words h a b = omega arith
+
+-- the tokens of a pair of n nodes are few, and there is room for its links and its queue
+pub places_few : (long n nodes words : ℕ) → 8 * nodes ≤ words → words ≤ 32768 → long ≤ 6 * n → n ≤ nodes → long ≤ 65536
+places_few long n nodes words h a b c = omega arith
+
+pub links_fit : (long n nodes words : ℕ) → half_words (8 * nodes) + nodes ≤ words → long ≤ 6 * n → n ≤ nodes → half_words long + nodes ≤ words
+links_fit long n nodes words h a b = omega arith
+
+-- two words of frames for each binding
+frames_fit : (revision variables words : ℕ) → variables + variables ≤ words → revision ≤ variables → revision + revision ≤ words
+frames_fit revision variables words h a = omega arith
+
 module _ {x : Solver} {m : Areas} (R : AreasReady x m) where
   pub ready_frames : Frames x m.d
   ready_frames =
-      record { room = omega (arith, R.roomy.d_size, R.roomy.marks, lent_revision _ _ _ _ _ R.ordered R.in_areas.represents); clear = R.in_areas.work }
+      record {
+        room =
+            subst (λ (n : ℕ). x.revision + x.revision ≤ n) (sym R.roomy.d_size)
+            (frames_fit x.revision x.variables (length m.a) R.roomy.roomy.marks (lent_revision _ _ _ _ _ R.ordered R.in_areas.represents));
+        clear = R.in_areas.work;
+      }
 
 -- ---- what is kept stays kept
 
@@ -114,7 +137,7 @@ module _ {x : Solver} {m : Areas} {z : Session} (Z : RepresentsInAreas x m z) wh
 -- a and b are the areas with its tokens, which end before `top`; those of m are without them
 module _ {x : Solver} {m : Areas} {z : Session} (Z : RepresentsInAreas x m z) (a b : List ℕ) (top : ℕ)
     (long_a : top ≤ length a) (rest-a : Zero (drop top a)) (rest-b : Zero (drop top b)) where
-  lays_pair : (y : Solver) (t' d' : List ℕ) (s : Session) → top ≤ 64 + 6 * s.kept → Represents y (take top a) (take top b) t' s → y.variables ≡ x.variables
+  lays_pair : (y : Solver) (t' d' : List ℕ) (s : Session) → top ≤ 6 * s.kept → Represents y (take top a) (take top b) t' s → y.variables ≡ x.variables
       → Zero (drop (pending_from x) t') → Zero d' → RepresentsInAreas y (areas a b m.records t' d') s
   lays_pair y t' d' s more L v k clear =
       let e : top ≡ y.top = sym (L.top ∙ length-take-le top a long_a) in
@@ -130,7 +153,7 @@ module _ {x : Solver} {m : Areas} {z : Session} (Z : RepresentsInAreas x m z) (a
 
   module _ (y : Solver) (t' d' : List ℕ) (st : Step) (w : Output) (v : Wrote) (D : DoesPair (lent x (take top a) (take top b) m.table) y t' z st w v) (clear : Zero d') where
     -- a variable was bound: the tokens stay
-    pub answers_bound : (y.revision ≡ x.revision → ⊥) → top ≤ 64 + 6 * st.session.kept → Answers y (areas a b m.records t' d') z st w v x
+    pub answers_bound : (y.revision ≡ x.revision → ⊥) → top ≤ 6 * st.session.kept → Answers y (areas a b m.records t' d') z st w v x
     answers_bound e more =
         record {
           fits = λ k. ((D.answer.fits k).0, (D.answer.fits k).1, lays_pair y t' d' st.session more (D.bound e) D.variables D.blank clear);

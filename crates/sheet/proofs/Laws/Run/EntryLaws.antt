@@ -16,7 +16,7 @@ use Rattle.solver.specs.Words.Worklist.{Zero}
 use Rattle.solver.specs.Words.SessionsContract.{counters}
 use Rattle.solver.proofs.Laws.Table.SessionsLaws.{all_zero, zero_cleared}
 use Rattle.sheet.specs.Sheet.{run_of}
-use Rattle.sheet.specs.Words.SessionInAreas.{Areas, areas, AreasSuffice}
+use Rattle.sheet.specs.Words.SessionInAreas.{Areas, areas, Roomy, AreasSuffice}
 use Rattle.sheet.specs.Entry.{Ended, Finish, finished, sizes_accepted, state_after_run, entry_result}
 
 -- ---- sizes
@@ -31,16 +31,19 @@ roomy_same v k la lb lr lt ld R =
       b_size = lb ∙ R.b_size ∙ sym la;
       c_size = omega (arith, lr, lt, la, R.c_size);
       d_size = ld ∙ R.d_size ∙ sym la;
-      tokens = rw (k, la) R.tokens;
+      roomy = rw (v, k, la) R.roomy;
+      records = lr ∙ R.records;
       few = rw la R.few;
-      records = rw lr R.records;
-      table = rw (v, k, lt) R.table;
-      links = rw (k, la) R.links;
-      marks = rw (v, la) R.marks;
       rules = rw k R.rules;
     }
 
--- 16,384 words do for 512 variables and 2,048 nodes
+-- 16,384 words do for 512 variables and 2,048 nodes, and 65,536 for 2,048 variables and 8,192 nodes
+pub roomy_small : Roomy 512 2048 16384
+roomy_small = record { tokens = omega arith; nominals = omega arith; table = omega arith; links = omega arith; marks = omega arith }
+
+pub roomy_large : Roomy 2048 8192 65536
+roomy_large = record { tokens = omega arith; nominals = omega arith; table = omega arith; links = omega arith; marks = omega arith }
+
 pub roomy_box : (a b c d : List ℕ) → 16384 ≤ length a → 16384 ≤ length b → 16384 ≤ length c → 16384 ≤ length d
     → AreasSuffice (counters (record { variables = 512; nodes = 2048 })) 16384 (areas (take 16384 a) (take 16384 b) (take 8192 (take 16384 c)) (drop 8192 (take 16384 c)) (take 16384 d))
 roomy_box a b c d ha hb hc hd =
@@ -52,12 +55,9 @@ roomy_box a b c d ha hb hc hd =
       b_size = length-take-le 16384 b hb;
       c_size = omega (arith, front, rest, all);
       d_size = length-take-le 16384 d hd;
-      tokens = omega arith;
+      roomy = roomy_small;
+      records = front;
       few = omega arith;
-      records = omega (arith, front);
-      table = omega (arith, rest, all);
-      links = omega arith;
-      marks = omega arith;
       rules = omega arith;
     }
 

@@ -3,31 +3,40 @@ use mathlib.Core.Path.{◌≡◌, refl, sym, ap, ap₂, ◌∙◌, subst}
 use mathlib.Core.Bool.{Bool, true, false, ◌||◌}
 use mathlib.Core.List.{List}
 use mathlib.Core.Option.{Option, none, some}
-use Prim.Native.Nat.{ℕ, suc, ◌+◌, ◌^◌, ◌≤◌, ◌<◌}
+use Prim.Native.Nat.{ℕ, ◌+◌, ◌^◌, ◌≤◌, ◌<◌}
 use native.Mathlib.Omega.{arith}
-use borrow.Author.Tests.{eqb-true, eqb-false, eq-eqb, ne_eqb}
 use lib.Dec.{eqb}
 use lib.ListN.{length, get_or}
+use Rattle.std.specs.Prelude.{Some, None}
+use Rattle.std.specs.Option.{option_eq}
+use Rattle.std.specs.declared.option.Option as rust
 use Rattle.terms.specs.Term.{Term, Parts, var, node, AllVars, Held}
 use Rattle.terms.specs.Tree.{same, children}
 use Rattle.terms.specs.Questions.{among}
+use Rattle.terms.proofs.Laws.General.Bools.{or-true, or-false}
 use Rattle.terms.proofs.Laws.Held.HeldLaws.{head_kind, items_some, held_first}
 use Rattle.solver.specs.declared.Solver.{Solver}
 use Rattle.solver.specs.declared.Checked.{Checked}
+use Rattle.solver.specs.declared.Builtin.{Builtin}
+use Rattle.solver.specs.declared.ChainEnd.{ChainEnd}
+use Rattle.solver.specs.declared.ChainEnd.TheVariants.{At, Default}
 use Rattle.solver.specs.Shapes.{Notion, same_shape}
 use Rattle.solver.specs.Constrain as solving
 use Rattle.solver.specs.Constrain.{Pair, Requests, follow, resolve, resolved, top, check_pair, recovery, recovers, occurs, projects, admit, bind, decompose}
 use Rattle.solver.specs.Session.{Session, issued, with_solver}
 use Rattle.solver.specs.Words.ReachContract.{Steady, Topped}
 use Rattle.solver.specs.Words.Bindings.{HeldBindings}
+use Rattle.solver.specs.Words.ChainEnds.{HeldEnd, Inside, variable_in, code_in, is_code, is_builtin}
 use Rattle.solver.specs.Words.SessionRepresentation.{binding_words, Represents}
 use Rattle.solver.specs.Words.MethodContract.{Beside, is_some, bound_to, at_most}
 use Rattle.solver.specs.Words.PendingContract.{PushedPairs, Twins}
-use Rattle.solver.specs.Words.ConstrainContract.{Within, Waiting, Facing, Nodes, Due, After}
+use Rattle.solver.specs.Words.ConstrainContract.{Within, Waiting, Facing, Nodes, Met, Due, After}
 use Rattle.solver.proofs.Laws.Definition.InOrderLaws.{in_order_ordered}
 use Rattle.solver.proofs.Laws.Definition.SolverInvariantLaws.{Ordered, ordered_steady, ordered_topped, ordered_revision, top_within, top_low, top_free}
 use Rattle.solver.proofs.Laws.Definition.CheckStepLaws.{turn_same, turn_left, turn_right, turn_nodes, bind_recovers, bind_refused, bind_occurs, bind_bound, part_recovers, part_projects, part_pushes, part_unlike}
-use Rattle.solver.proofs.Laws.Equality.LinkLaws.{as_var}
+use Rattle.solver.proofs.Laws.Resolving.AskLaws.{two_up}
+use Rattle.solver.proofs.Laws.Resolving.ChainEndLaws.{variable_told, node_told}
+use Rattle.solver.proofs.Laws.Checks.DefaultCheckLaws.{comes, answered, default_left, default_right, default_both}
 use Rattle.solver.proofs.Laws.Checks.CheckStepWords.{after_passed, after_failed, after_bound, after_pushed}
 
 -- ---- places
@@ -42,15 +51,12 @@ within_most N m l (node k ps) w = tt
 
 -- ---- a variable meets a term
 
-module _ {x : Solver} {ks vs ts : List ℕ} {s : Session} {v q : ℕ} {t : Term} (F : Facing x ks vs ts s v q t) where
-  pub facing_place : q < length ks
-  facing_place = held_place ks vs q t F.known.held
-
+module _ {x : Solver} {ks vs ts : List ℕ} {s : Session} {v : ℕ} {q : ChainEnd} {t : Term} (F : Facing x ks vs ts s v q t) where
   pub facing_low : v < x.variables
   facing_low = omega (arith, F.low, F.represents.fits.variables)
 
-  pub facing_bind : (v < x.variables) × (q < length ks) × (length vs ≡ length ks) × (length ks < 2 ^ 32) × (x.revision < 2 ^ 33)
-  facing_bind = (facing_low, facing_place, F.represents.vals, F.represents.short, omega (arith, F.represents.revision, F.counted, F.represents.fits.variables, F.represents.narrow))
+  pub facing_bind : (v < x.variables) × Inside (length ks) q × (length ks < 2 ^ 32) × (x.revision < 2 ^ 33)
+  facing_bind = (facing_low, F.inside, omega (arith, F.represents.short), omega (arith, F.represents.revision, F.counted, F.represents.fits.variables, F.represents.narrow))
 
 none_of : (o : Option Requests) → is_some o ≡ false → o ≡ none
 none_of none e = refl
@@ -60,7 +66,7 @@ some_of : (o : Option Requests) → is_some o ≡ true → (rs : Requests) × (o
 some_of none e = absurd (let z : ◌≡◌ {A = ℕ} 0 1 = cc in omega arith)
 some_of (some rs) e = (rs, refl)
 
-module _ {x : Solver} {ks vs ts : List ℕ} {s : Session} {v q : ℕ} {t : Term} (F : Facing x ks vs ts s v q t) {st : List ℕ} {count : ℕ} {ps : List Pair} (W : Waiting ks vs st count ps) {a b : Term} where
+module _ {x : Solver} {ks vs ts : List ℕ} {s : Session} {v : ℕ} {q : ChainEnd} {t : Term} (F : Facing x ks vs ts s v q t) {st : List ℕ} {count : ℕ} {ps : List Pair} (W : Waiting ks vs st count ps) {a b : Term} where
   pub assign_recovers : recovers (resolved s.solver t) ≡ true → After x ks vs ts ts st st s a b count (bind s.solver v t ps) (record { solver = x; good = true; count = count })
   assign_recovers e = after_passed x ks vs ts st s count ps F.represents W a b (bind_recovers s.solver v t ps e)
 
@@ -79,35 +85,49 @@ module _ {x : Solver} {ks vs ts : List ℕ} {s : Session} {v q : ℕ} {t : Term}
       → Beside x y ts us → After x ks vs ts us st st s a b count (bind s.solver v t ps) (record { solver = y; good = true; count = count })
   assign_bound e f g {y} {us} l d =
       let r = some_of (admit s.solver.requests (s.solver.requests v) t) f in
-      let low = within_most (issued s) x.variables F.represents.fits.variables t F.known.within in
+      let low = within_most (issued s) x.variables F.represents.fits.variables t F.within in
       after_bound x ks vs ts st s count ps F.represents W a b (bound_to s.solver v t r.0) (bind_bound s.solver v t ps r.0 e r.1 g) refl y us (l r.0 low r.1)
       d.variables d.nodes d.size
 
 -- ---- two nodes
-
--- a head's kind is two more than the tag
-two_more : (k m : ℕ) → eqb (suc (suc k)) (suc (suc m)) ≡ eqb k m
-two_more k m = go (eqb k m) refl
-  where
-    go : (b : Bool) → eqb k m ≡ b → eqb (suc (suc k)) (suc (suc m)) ≡ b
-    go true e = eq-eqb (suc (suc k)) (suc (suc m)) (ap (λ (i : ℕ). suc (suc i)) (eqb-true k m e))
-    go false e = ne_eqb (suc (suc k)) (suc (suc m)) (λ q. eqb-false k m e (omega arith))
 
 or-none : (a b : Bool) → (a || b) ≡ (a || (b || false))
 or-none true b = refl
 or-none false true = refl
 or-none false false = refl
 
--- the kind of a node's head says whether it is an Unknown or Error, or a projection
+-- the kind of a node's head, which is two more than its tag, says whether it is an Unknown or Error, or a projection
 pub kind_recovery : (ks vs : List ℕ) (p k : ℕ) (ps : Parts) → Held ks vs p (node k ps) → (eqb (get_or ks p 0) 4 || eqb (get_or ks p 0) 5) ≡ recovery (node k ps)
 unfolding recovery among head_kind
 kind_recovery ks vs p k ps h =
     let e = (held_first ks vs p (node k ps) h).0 in
-    ap₂ ◌||◌ (ap (λ (i : ℕ). eqb i 4) e ∙ two_more k 2) (ap (λ (i : ℕ). eqb i 5) e ∙ two_more k 3) ∙ or-none (eqb k 2) (eqb k 3)
+    ap₂ ◌||◌ (ap (λ (i : ℕ). eqb i 4) e ∙ two_up k 2) (ap (λ (i : ℕ). eqb i 5) e ∙ two_up k 3) ∙ or-none (eqb k 2) (eqb k 3)
+
+-- whether a held term is a recovery term or a builtin, by its kind and its code
+module _ (ks vs : List ℕ) (q c : ℕ) (t : Term) (h : Held ks vs q t) where
+  kind_recovers : (eqb (get_or ks q 0) 4 || eqb (get_or ks q 0) 5) ≡ recovery t
+  unfolding recovery head_kind
+  kind_recovers = go t h
+    where
+      go : (y : Term) → Held ks vs q y → (eqb (get_or ks q 0) 4 || eqb (get_or ks q 0) 5) ≡ recovery y
+      go (var v) h = ap (λ (i : ℕ). eqb i 4 || eqb i 5) (held_first ks vs q (var v) h).0
+      go (node k ps) h = kind_recovery ks vs q k ps h
+
+  pub met_recovers : {b : Bool} → b ≡ (eqb (get_or ks q 0) 4 || eqb (get_or ks q 0) 5) → b ≡ true → b ≡ (recovery t || is_builtin c t)
+  met_recovers e d = d ∙ sym (or-true (recovery t) (is_builtin c t) (sym kind_recovers ∙ sym e ∙ d))
+
+  pub met_code : {b r : Bool} {o : rust.Option ℕ} → b ≡ (eqb (get_or ks q 0) 4 || eqb (get_or ks q 0) 5) → b ≡ false → o ≡ code_in t → r ≡ option_eq eqb o (Some c)
+      → r ≡ (recovery t || is_builtin c t)
+  unfolding is_code
+  met_code {b} {r} {o} e d f g = g ∙ code_eq o ∙ ap (is_code c) f ∙ sym (or-false (recovery t) (is_builtin c t) (sym kind_recovers ∙ sym e ∙ d))
+    where
+      code_eq : (o : rust.Option ℕ) → option_eq eqb o (Some c) ≡ is_code c o
+      code_eq None = refl
+      code_eq (Some d) = refl
 
 pub kind_projects : (ks vs : List ℕ) (p k : ℕ) (ps : Parts) → Held ks vs p (node k ps) → eqb (get_or ks p 0) 20 ≡ projects (node k ps)
 unfolding projects head_kind
-kind_projects ks vs p k ps h = ap (λ (i : ℕ). eqb i 20) (held_first ks vs p (node k ps) h).0 ∙ two_more k 18
+kind_projects ks vs p k ps h = ap (λ (i : ℕ). eqb i 20) (held_first ks vs p (node k ps) h).0 ∙ two_up k 18
 
 module _ (n : Notion) {x : Solver} {ks vs ts : List ℕ} {s : Session} {i j count : ℕ} {t u : Term} (L : Represents x ks vs ts s) (N : Nodes x ks vs i j count t u) {st : List ℕ} {ps : List Pair}
     (W : Waiting ks vs st count ps) where
@@ -175,7 +195,7 @@ module _ {x : Solver} {ks vs : List ℕ} {i j count : ℕ} {t u : Term} (N : Nod
 
   -- two nodes whose shapes agree, and the room for their children
   pub nodes_twins : (n : Notion) {r : Bool} → r ≡ true → ((k l : ℕ) (rs qs : Parts) → Held ks vs i (node k rs) → Held ks vs j (node l qs) → r ≡ same_shape n (node k rs) (node l qs))
-      → {size : ℕ} → 32 + x.nodes ≤ size
+      → {size : ℕ} → x.nodes ≤ size
       → (w : Twins ks vs i j) × (count + length (children (node w.tag w.left)) ≤ size)
   unfolding children
   nodes_twins n {r} g h {size} l =
@@ -193,6 +213,35 @@ module _ {x : Solver} {ks vs : List ℕ} {i j count : ℕ} {t u : Term} (N : Nod
         },
         omega (arith, N.room),
       )
+
+-- ---- two ends
+
+-- both are at places
+pub met_nodes : {x : Solver} {ks vs : List ℕ} {i j count : ℕ} {t u : Term} → Met x ks vs (At i) (At j) count t u → Nodes x ks vs i j count t u
+met_nodes M =
+    record { tag = M.tag; row = M.row; left = M.left; other = M.other; behind = M.behind; right = M.right; at_left = M.at_left; at_right = M.at_right; room = M.room }
+
+module _ (n : Notion) (codes : n 4 ≡ false) {x : Solver} {ks vs ts : List ℕ} {s : Session} {count : ℕ} {t u : Term} (L : Represents x ks vs ts s) {st : List ℕ} {ps : List Pair}
+    (W : Waiting ks vs st count ps) where
+  answers : (g : Bool) → comes n s.solver ps t u ≡ answered s.solver ps g → After x ks vs ts ts st st s t u count (comes n s.solver ps t u) (record { solver = x; good = g; count = count })
+  answers true e = after_passed x ks vs ts st s count ps L W t u e
+  answers false e = after_failed x ks vs ts st s count ps L W t u e
+
+  -- one is a default, or both are
+  pub apart_right : {i : ℕ} {b : Builtin} → Met x ks vs (At i) (Default b) count t u → {g : Bool} → ((y : Term) → Held ks vs i y → g ≡ (recovery y || is_builtin b.code y))
+      → After x ks vs ts ts st st s t u count (comes n s.solver ps t u) (record { solver = x; good = g; count = count })
+  apart_right {b = b} M {g} f =
+      answers g (ap (comes n s.solver ps t) M.at_right.1 ∙ default_right n codes s.solver ps b.code t ∙ ap (answered s.solver ps) (sym (f t M.at_left)))
+
+  pub apart_left : {b : Builtin} {j : ℕ} → Met x ks vs (Default b) (At j) count t u → {g : Bool} → ((y : Term) → Held ks vs j y → g ≡ (recovery y || is_builtin b.code y))
+      → After x ks vs ts ts st st s t u count (comes n s.solver ps t u) (record { solver = x; good = g; count = count })
+  apart_left {b} M {g} f =
+      answers g (ap (λ (y : Term). comes n s.solver ps y u) M.at_left.1 ∙ default_left n codes s.solver ps b.code u ∙ ap (answered s.solver ps) (sym (f u M.at_right)))
+
+  pub apart_both : {b d : Builtin} → Met x ks vs (Default b) (Default d) count t u
+      → After x ks vs ts ts st st s t u count (comes n s.solver ps t u) (record { solver = x; good = eqb b.code d.code; count = count })
+  apart_both {b} {d} M =
+      answers (eqb b.code d.code) (ap₂ (comes n s.solver ps) M.at_left.1 M.at_right.1 ∙ default_both n codes s.solver ps b.code d.code)
 
 -- ---- a pair is due
 
@@ -224,58 +273,60 @@ module _ {x : Solver} {ks vs ts : List ℕ} {s : Session} {i j count : ℕ} {t u
       → After x ks vs ts ts st st s (top z t) (top z u) count (check_pair n z t u ps) (record { solver = x; good = true; count = count })
   turned_same n {st} {ps} W e = after_passed x ks vs ts st s count ps D.represents W (top z t) (top z u) (turn_same n z t u ps e)
 
-  -- what `shallow_resolve` finds of the place p
-  abbrev Finds : ℕ → ℕ → Type 0
-  Finds p a = (t : Term) (b : ℕ → Option Term) → Held ks vs p t → HeldBindings ks vs (binding_words x.variables ts) b → Held ks vs a (follow x.revision b t)
+  -- what `shallow_resolve` finds of the place p, and `variable_of` tells of an end
+  abbrev Finds : ℕ → ChainEnd → Type 0
+  Finds p a = (t : Term) (b : ℕ → Option Term) → Held ks vs p t → HeldBindings ks vs (binding_words x.variables ts) b → HeldEnd ks vs (follow x.revision b t) a
 
-  found : (p a : ℕ) (y : Term) → Held ks vs p y → Finds p a → Held ks vs a (top z y)
-  found p a y h f = subst (λ (k : ℕ). Held ks vs a (follow k z.bindings y)) D.represents.revision (f y z.bindings h D.represents.bindings)
+  abbrev Tells : ChainEnd → rust.Option ℕ → Type 0
+  Tells a o = (t : Term) → HeldEnd ks vs t a → o ≡ variable_in t
+
+  found : (p : ℕ) (a : ChainEnd) (y : Term) → Held ks vs p y → Finds p a → HeldEnd ks vs (top z y) a
+  found p a y h f = subst (λ (k : ℕ). HeldEnd ks vs (follow k z.bindings y) a) D.represents.revision (f y z.bindings h D.represents.bindings)
 
   abbrev Left : (us st₀ st : List ℕ) → Checked → solving.Check → Type 0
   Left us st₀ st r w = After x ks vs ts us st₀ st s (top z t) (top z u) count w r
 
-  -- the tops of the two terms stand at a and b
-  module _ {a b : ℕ} (top_i : Finds i a) (top_j : Finds j b) where
-    at_a : Held ks vs a (top z t)
+  -- the tops of the two terms are the ends a and b
+  module _ (a b : ChainEnd) (top_i : Finds i a) (top_j : Finds j b) where
+    at_a : HeldEnd ks vs (top z t) a
     at_a = found i a t D.left.held top_i
 
-    at_b : Held ks vs b (top z u)
+    at_b : HeldEnd ks vs (top z u) b
     at_b = found j b u D.right.held top_j
 
-    pub due_left : get_or ks a 0 ≡ 1 → Facing x ks vs ts s (get_or vs a 0) b (top z u)
-    due_left e =
-        let p = as_var ks vs a (top z t) at_a (omega arith) in
+    pub due_left : {o : rust.Option ℕ} {v : ℕ} → Tells a o → o ≡ Some v → Inside (length ks) b → Facing x ks vs ts s v b (top z u)
+    due_left {o} {v} f e l =
+        let p = variable_told (top z t) v (sym (f (top z t) at_a) ∙ e) in
         record {
           represents = D.represents;
           steady = due_steady;
           counted = ordered_revision (issued s) z order;
-          free = top_free (issued s) z order t (get_or vs a 0) p;
-          low = top_low (issued s) z order t (get_or vs a 0) D.left.within p;
-          known = record { held = at_b; within = top_within (issued s) z order u D.right.within };
+          free = top_free (issued s) z order t v p;
+          low = top_low (issued s) z order t v D.left.within p;
+          inside = l;
+          held = at_b;
+          within = top_within (issued s) z order u D.right.within;
         }
 
-    pub due_right : get_or ks b 0 ≡ 1 → Facing x ks vs ts s (get_or vs b 0) a (top z t)
-    due_right e =
-        let p = as_var ks vs b (top z u) at_b (omega arith) in
+    pub due_right : {o : rust.Option ℕ} {v : ℕ} → Tells b o → o ≡ Some v → Inside (length ks) a → Facing x ks vs ts s v a (top z t)
+    due_right {o} {v} f e l =
+        let p = variable_told (top z u) v (sym (f (top z u) at_b) ∙ e) in
         record {
           represents = D.represents;
           steady = due_steady;
           counted = ordered_revision (issued s) z order;
-          free = top_free (issued s) z order u (get_or vs b 0) p;
-          low = top_low (issued s) z order u (get_or vs b 0) D.right.within p;
-          known = record { held = at_a; within = top_within (issued s) z order t D.left.within };
+          free = top_free (issued s) z order u v p;
+          low = top_low (issued s) z order u v D.right.within p;
+          inside = l;
+          held = at_a;
+          within = top_within (issued s) z order t D.left.within;
         }
 
-    -- a head that is no variable is a node's
-    head_node : (p : ℕ) (y : Term) → Held ks vs p y → (get_or ks p 0 ≡ 1 → ⊥) → (k : ℕ) × (rs : Parts) × (y ≡ node k rs)
-    unfolding head_kind
-    head_node p (var v) h e = absurd (e (held_first ks vs p (var v) h).0)
-    head_node p (node k rs) h e = (k, rs, refl)
-
-    pub due_nodes : (get_or ks a 0 ≡ 1 → ⊥) → (get_or ks b 0 ≡ 1 → ⊥) → Nodes x ks vs a b count (top z t) (top z u)
-    due_nodes e f =
-        let p = head_node a (top z t) at_a e in
-        let q = head_node b (top z u) at_b f in
+    pub due_nodes : {o p : rust.Option ℕ} → Tells a o → o ≡ None → Tells b p → p ≡ None → Inside (length ks) a → Inside (length ks) b
+        → Met x ks vs a b count (top z t) (top z u)
+    due_nodes f e g d l m =
+        let p = node_told (top z t) (sym (f (top z t) at_a) ∙ e) in
+        let q = node_told (top z u) (sym (g (top z u) at_b) ∙ d) in
         record {
           tag = p.0;
           row = p.1;
@@ -283,6 +334,8 @@ module _ {x : Solver} {ks vs ts : List ℕ} {s : Session} {i j count : ℕ} {t u
           other = q.0;
           behind = q.1;
           right = q.2;
+          inside_left = l;
+          inside_right = m;
           at_left = at_a;
           at_right = at_b;
           room = D.room p.0 p.1 p.2;
@@ -290,17 +343,19 @@ module _ {x : Solver} {ks vs ts : List ℕ} {s : Session} {i j count : ℕ} {t u
 
     -- what the definition does
     module _ (n : Notion) (ps : List Pair) {us st₀ st : List ℕ} {r : Checked} (differ : same (resolved z t) (resolved z u) ≡ false) where
-      pub turned_left : get_or ks a 0 ≡ 1 → Left us st₀ st r (bind z (get_or vs a 0) (top z u) ps) → Left us st₀ st r (check_pair n z t u ps)
-      turned_left e h = subst (Left us st₀ st r) (sym (turn_left n z t u ps (get_or vs a 0) differ (as_var ks vs a (top z t) at_a (omega arith)))) h
+      pub turned_left : {o : rust.Option ℕ} {v : ℕ} → Tells a o → o ≡ Some v → Left us st₀ st r (bind z v (top z u) ps) → Left us st₀ st r (check_pair n z t u ps)
+      turned_left {o} {v} f e h =
+          subst (Left us st₀ st r) (sym (turn_left n z t u ps v differ (variable_told (top z t) v (sym (f (top z t) at_a) ∙ e)))) h
 
-      pub turned_right : (get_or ks a 0 ≡ 1 → ⊥) → get_or ks b 0 ≡ 1 → Left us st₀ st r (bind z (get_or vs b 0) (top z t) ps) → Left us st₀ st r (check_pair n z t u ps)
-      turned_right e f h =
-          let p = head_node a (top z t) at_a e in
-          subst (Left us st₀ st r) (sym (turn_right n z t u ps p.0 p.1 (get_or vs b 0) differ p.2 (as_var ks vs b (top z u) at_b (omega arith)))) h
+      pub turned_right : {o q : rust.Option ℕ} {v : ℕ} → Tells a o → o ≡ None → Tells b q → q ≡ Some v → Left us st₀ st r (bind z v (top z t) ps)
+          → Left us st₀ st r (check_pair n z t u ps)
+      turned_right {o} {q} {v} f e g d h =
+          let p = node_told (top z t) (sym (f (top z t) at_a) ∙ e) in
+          subst (Left us st₀ st r) (sym (turn_right n z t u ps p.0 p.1 v differ p.2 (variable_told (top z u) v (sym (g (top z u) at_b) ∙ d)))) h
 
-      pub turned_nodes : (get_or ks a 0 ≡ 1 → ⊥) → (get_or ks b 0 ≡ 1 → ⊥)
+      pub turned_nodes : {o q : rust.Option ℕ} → Tells a o → o ≡ None → Tells b q → q ≡ None
           → Left us st₀ st r (decompose z (top z t) (top z u) ps (recovery (top z t) || recovery (top z u)) (projects (top z t)) (same_shape n (top z t) (top z u))) → Left us st₀ st r (check_pair n z t u ps)
-      turned_nodes e f h =
-          let p = head_node a (top z t) at_a e in
-          let q = head_node b (top z u) at_b f in
+      turned_nodes f e g d h =
+          let p = node_told (top z t) (sym (f (top z t) at_a) ∙ e) in
+          let q = node_told (top z u) (sym (g (top z u) at_b) ∙ d) in
           subst (Left us st₀ st r) (sym (turn_nodes n z t u ps p.0 q.0 p.1 q.1 differ p.2 q.2)) h

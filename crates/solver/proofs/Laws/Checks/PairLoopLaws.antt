@@ -8,7 +8,7 @@ use Prim.Native.Nat.{ℕ, zero, suc, ◌+◌, ◌*◌, ◌-◌, ◌≤◌, ◌<�
 use native.Mathlib.Omega.{arith}
 use lib.ListN.{length, get_or, take, length-append}
 use lib.Seq.{take-take, take-append-le, drop_at, length-take-le}
-use Rattle.terms.specs.Term.{Term, Parts, var, node, Held}
+use Rattle.terms.specs.Term.{Term, Parts, var, node, end, num, Held}
 use Rattle.terms.specs.Tree.{subs, children}
 use Rattle.unify.specs.Solver.{Out, cancelled, done}
 use Rattle.solver.specs.declared.Solver.{Solver}
@@ -21,7 +21,8 @@ use Rattle.solver.specs.Constrain.{Pair, check_pair, top, follow, followed, sett
 use Rattle.solver.specs.Session.{Session, issued, with_solver}
 use Rattle.solver.specs.Invariant.{InOrder}
 use Rattle.solver.specs.Orders.{solver_of, verdict_code}
-use Rattle.solver.specs.Words.Bindings.{HeldBinding, HeldBindings}
+use Rattle.solver.specs.Words.ReachContract.{Steady}
+use Rattle.solver.specs.Words.Bindings.{builtin, placed, coded, HeldBinding, HeldBindings}
 use Rattle.solver.specs.Words.Worklist.{Zero}
 use Rattle.solver.specs.Words.SessionRepresentation.{Represents, binding_words, verdict_number}
 use Rattle.solver.specs.Words.PendingContract.{left_of, PushedPairs, Laid, Taken}
@@ -31,21 +32,26 @@ use Rattle.solver.specs.Words.TableLayout.{lasting_words}
 use Rattle.solver.proofs.Laws.Definition.InOrderLaws.{in_order_ordered, ordered_in_order}
 use Rattle.solver.proofs.Laws.Definition.SolverInvariantLaws.{ordered_steady}
 use Rattle.solver.proofs.Laws.Definition.CheckStepLaws.{turn_ordered, turn_within, turn_extends}
+use Rattle.solver.proofs.Laws.Resolving.TopLaws.{follow_node}
 use Rattle.solver.proofs.Laws.Table.RepresentationLaws.{lent_scratch}
 use Rattle.solver.proofs.Laws.Checks.PendingLaws.{Stacked}
-use Rattle.solver.proofs.Laws.Checks.StackLaws.{laid_left, laid_right, Stack, stack_start, stack_empty, stack_some, stack_agree, stack_extends, stack-pop, stack_room, stack_push, stack_bound}
+use Rattle.solver.proofs.Laws.Checks.StackLaws.{laid_left, laid_right, Stack, stack_start, stack_empty, stack_some, stack_agree, stack_extends, stack-pop, stack_room, stack_push, begins_some, stack_bound}
 
--- the top of a held term is held somewhere
-pub follow_held : (ks vs bs : List ℕ) (b : ℕ → Option Term) → HeldBindings ks vs bs b → (n i : ℕ) (t : Term) → Held ks vs i t → (a : ℕ) × Held ks vs a (follow n b t)
+-- the top of a held term is held somewhere, or is a builtin
+abbrev Somewhere : List ℕ → List ℕ → Term → Type 0
+Somewhere ks vs t = ((a : ℕ) × Held ks vs a t) ⊎ ((c : ℕ) × (t ≡ builtin c))
+
+pub follow_held : (ks vs bs : List ℕ) (b : ℕ → Option Term) → HeldBindings ks vs bs b → (n i : ℕ) (t : Term) → Held ks vs i t → Somewhere ks vs (follow n b t)
 unfolding follow followed
-follow_held ks vs bs b h zero i t g = (i, g)
-follow_held ks vs bs b h (suc n) i (node k ps) g = (i, g)
-follow_held ks vs bs b h (suc n) i (var v) g = go (λ j u q. follow_held ks vs bs b h n j u q) (b v) (h v)
+follow_held ks vs bs b h zero i t g = inl (i, g)
+follow_held ks vs bs b h (suc n) i (node k ps) g = inl (i, g)
+follow_held ks vs bs b h (suc n) i (var v) g = go (λ j u q. follow_held ks vs bs b h n j u q) (b v) (h.words v)
   where
-    go : ((j : ℕ) (u : Term) → Held ks vs j u → (a : ℕ) × Held ks vs a (follow n b u)) → (o : Option Term) → HeldBinding ks vs o (get_or bs v 0)
-        → (a : ℕ) × Held ks vs a (followed v o (λ u. follow n b u))
-    go ih none e = (i, g)
-    go ih (some u) e = ih e.0 u e.2
+    go : ((j : ℕ) (u : Term) → Held ks vs j u → Somewhere ks vs (follow n b u)) → (o : Option Term) → HeldBinding ks vs o (get_or bs v 0)
+        → Somewhere ks vs (followed v o (λ u. follow n b u))
+    go ih none e = inl (i, g)
+    go ih (some u) (placed p e q) = ih p u q
+    go ih (some u) (coded c l e f) = inr (c, ap (follow n b) f ∙ follow_node n b 4 (num c end))
 
 -- `goal` is what the definition gives for the pair that `constrain` was given; what is left comes to the same. ts are the words of the table, and
 -- st those of the pending pairs.
@@ -68,6 +74,10 @@ pub table_of : {x : Solver} {ks vs ws ts : List ℕ} {s : Session} → Represent
 table_of {x} {ks} {vs} {ws} {ts} {s} lent e =
     lent_scratch x ks vs ws ts s lent (sym (ap (take (pending_from x)) e ∙ take-take (pending_from x) (pending_from x) ws (omega arith)))
     (omega (arith, lent.room, ap length e, length-take-le (pending_from x) ws lent.room))
+
+-- there is room for the pair
+pub start_room : {x : Solver} {ks vs ts : List ℕ} {s : Session} {p : ℕ} {t : Term} → Represents x ks vs ts s → Known ks vs s p t → 0 < x.nodes
+start_room {ks = ks} {vs = vs} {p = p} {t = t} L k = omega (arith, begins_some ks vs p t k.held, L.begun, L.fits.nodes)
 
 module _ {n : Notion} {x : Solver} {ks vs ts st : List ℕ} {s : Session} (ordered : InOrder (issued s) s.solver) (lent : Represents x ks vs ts s) (clear : Zero st)
     {p q : ℕ} {t u : Term} (left : Known ks vs s p t) (right : Known ks vs s q u) {st' : List ℕ} {count : ℕ} (laid : Laid (p ∷ []) (q ∷ []) 0 st st' count) where
@@ -111,13 +121,23 @@ module _ (n : Notion) (x₀ : Solver) (ks vs : List ℕ) (s : Session) (goal : O
   z = G.solver
 
   taken_room : (p : Pair) (rest : List Pair) → Stack ks vs z.bindings st (suc count) (p ∷ rest) → (k : ℕ) (row : Parts) → top z p.0 ≡ node k row
-      → count + length (subs row) ≤ 32 + x.nodes
-  unfolding children
+      → count + length (subs row) ≤ x.nodes
+  unfolding children subs
   taken_room p rest S k row e =
-      let h = follow_held ks vs (binding_words x.variables ts) z.bindings G.represents.bindings z.revision (left_of (get_or st count 0)) p.0 S.held.0 in
-      let g : Held ks vs h.0 (node k row) = subst (λ (t : Term). Held ks vs h.0 t) e h.1 in
-      let r = stack_room ks vs S z.revision h.0 k row e g z.revision (ordered_steady (issued s) z (in_order_ordered (issued s) z G.ordered)) in
-      omega (arith, G.represents.begun, G.represents.fits.nodes)
+      let B = stack_bound ks vs z.revision steady S in
+      elim (follow_held ks vs (binding_words x.variables ts) z.bindings G.represents.bindings z.revision (left_of (get_or st count 0)) p.0 S.held.0) [
+        | inl h ↦
+            let g : Held ks vs h.0 (node k row) = subst (λ (t : Term). Held ks vs h.0 t) e h.1 in
+            let r = stack_room ks vs S z.revision h.0 k row e g z.revision steady in
+            omega (arith, r, G.represents.begun, G.represents.fits.nodes)
+        | inr c ↦
+            let q : node k row ≡ builtin c.0 = sym e ∙ c.1 in
+            let f : row ≡ num c.0 end = cc in
+            rw f (omega (arith, B, G.represents.begun, G.represents.fits.nodes))
+      ]
+    where
+      steady : Steady z.revision z.bindings
+      steady = ordered_steady (issued s) z (in_order_ordered (issued s) z G.ordered)
 
   taken_blank : (m : ℕ) → count ≤ m → get_or st' m 0 ≡ 0
   taken_blank m h = go (native.Mathlib.Decide.ℕ_discrete m count)

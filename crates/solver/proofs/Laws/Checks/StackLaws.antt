@@ -206,14 +206,18 @@ module _ (ks vs : List ℕ) where
         (λ i h. ap left_of (w.laid.below i h ∙ same i h)) (λ j h. laid_left w.laid j h)));
   }
 
+  -- a held term begins at some token
+  pub begins_some : (p : ℕ) (t : Term) → Held ks vs p t → 0 < begins ks
+  begins_some p t h =
+      let b = term_begins ks vs p t h in
+      omega (arith, pigeon_begins ks 1 (λ _. p) (λ i _. b.0) (λ i j x y. absurd (omega arith)) (λ i _. b.1))
+
   -- there are never more pairs than tokens begin a term
   pub stack_bound : {b : ℕ → Option Term} {st : List ℕ} {count : ℕ} {ps : List Pair} (n : ℕ) → Steady n b → Stack ks vs b st count ps → count ≤ begins ks
   stack_bound {b} {st} {count} {ps} n S s = go count ps s
     where
       alone : (c : ℕ) (p : Pair) (qs : List Pair) → Stack ks vs b st (suc c) (p ∷ qs) → suc c ≡ 1 → suc c ≤ begins ks
-      alone c p qs s e =
-          let h = term_begins ks vs (left_of (get_or st c 0)) p.0 s.held.0 in
-          omega (arith, pigeon_begins ks 1 (λ _. left_of (get_or st c 0)) (λ i _. h.0) (λ i j x y. absurd (omega arith)) (λ i _. h.1))
+      alone c p qs s e = omega (arith, begins_some (left_of (get_or st c 0)) p.0 s.held.0)
 
       go : (c : ℕ) (qs : List Pair) → Stack ks vs b st c qs → c ≤ begins ks
       go zero qs s = omega arith

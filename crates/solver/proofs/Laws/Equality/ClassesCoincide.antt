@@ -9,7 +9,7 @@ use Rattle.terms.specs.Term.{Term, Parts, var, node, end, num, sub, items, Held}
 use Rattle.terms.specs.Words.Held.{span}
 use Rattle.terms.proofs.Laws.Held.HeldLaws.{held_first, span_is, items_injective}
 use Rattle.solver.specs.Constrain.{replace, replace_row}
-use Rattle.solver.specs.Words.CongruenceClasses.{Standing, Up, here, climb, Pairwise, Linked, same_var, same_class, Edge, Matched}
+use Rattle.solver.specs.Words.CongruenceClasses.{Standing, Up, here, climb, Pairwise, Linked, same_var, same_code, same_class, Edge, Matched}
 
 -- ---- equal to depth m
 
@@ -153,6 +153,9 @@ module _ (σ : ℕ → Term) (τ : Term → Term) (s : Standing σ τ) where
 
       joined_deep : (t u : Term) → Linked ks vs τ par t u → SameTo m (replace σ t) (replace σ u)
       joined_deep t u (same_var v e f) =
+          let q : replace σ t ≡ replace σ u = sym (s.tops t) ∙ ap (replace σ) (e ∙ sym f) ∙ s.tops u in
+          rw q (same_refl m (replace σ u))
+      joined_deep t u (same_code c e f) =
           let q : replace σ t ≡ replace σ u = sym (s.tops t) ∙ ap (replace σ) (e ∙ sym f) ∙ s.tops u in
           rw q (same_refl m (replace σ u))
       joined_deep t u (same_class a b r ha hb pa pb) =

@@ -2,13 +2,14 @@
 use mathlib.Core.Bool.{Bool, true, false}
 use mathlib.Core.List.{List}
 use mathlib.Core.Path.{◌≡◌, refl, sym, ap, ◌∙◌}
-use Prim.Native.Nat.{ℕ, ◌+◌, ◌-◌, ◌≤◌, ◌<◌}
+use Prim.Native.Nat.{ℕ, ◌+◌, ◌≤◌, ◌<◌}
 use native.Mathlib.Omega.{arith}
 use native.Mathlib.Decide.{ℕ_discrete}
 use lib.ListN.{get_or}
 use Rattle.terms.specs.Term.{Term, Parts, node, Held}
 use Rattle.terms.proofs.Laws.General.Bools.{never_true}
 use Rattle.solver.specs.Constrain.{replace, replace_row}
+use Rattle.solver.specs.Words.Halves.{low_half, high_half}
 use Rattle.solver.specs.Words.Worklist.{Zero}
 use Rattle.solver.specs.Words.CongruenceClasses.{Wired, Keeps, Advanced, Standing, Coincide, CoincideRow, Pairwise, Linked, Edge, Fair, Honest, Outcome, Matched, Closed}
 use Rattle.solver.proofs.Laws.Equality.ClassesCoincide.{joined_same}
@@ -21,7 +22,7 @@ node_level f k l ps qs e = cc
 -- the parts of the first `done` places of the queue are joined
 pub record Going (ks vs : List ℕ) (σ : ℕ → Term) (τ : Term → Term) (par₀ par queue : List ℕ) (done : ℕ) : Type 0 where
   pub fair : Fair ks vs par
-  pub rows : (i : ℕ) → i < done → (y : ℕ) → get_or par (get_or queue i 0) 0 ≡ y + 1 → Matched ks vs τ par (get_or queue i 0) y
+  pub rows : (i : ℕ) → i < done → (y : ℕ) → get_or par (low_half (get_or queue i 0)) 0 ≡ y + 1 → Matched ks vs τ par (low_half (get_or queue i 0)) y
   pub honest : Honest ks vs σ par₀ → Honest ks vs σ par
 
 pub going_start : (ks vs : List ℕ) (σ : ℕ → Term) (τ : Term → Term) (par queue : List ℕ) → Fair ks vs par → Going ks vs σ τ par par queue 0
@@ -29,7 +30,7 @@ going_start ks vs σ τ par queue f = record { fair = f; rows = λ i h. absurd (
 
 module _ {ks vs : List ℕ} {σ : ℕ → Term} {τ : Term → Term} {par₀ par queue par' queue' : List ℕ} {top top' done x y : ℕ}
     (g : Going ks vs σ τ par₀ par queue done) (w : Wired ks par queue top) (m : Advanced ks par queue top par' queue' top') (below : done < top)
-    (ex : x ≡ get_or queue done 0) (ey : get_or par x 0 ≡ y + 1) {same : Bool}
+    (ex : x ≡ low_half (get_or queue done 0)) (ey : get_or par x 0 ≡ y + 1) {same : Bool}
     (told : (k l : ℕ) (ps qs : Parts) → Held ks vs x (node k ps) → Held ks vs y (node l qs)
     → Outcome ks vs σ par par' same (Pairwise (Linked ks vs τ par') ps qs) (CoincideRow σ ps qs)) where
   tells : (e : Edge ks vs x y) → Outcome ks vs σ par par' same (Pairwise (Linked ks vs τ par') e.left e.right) (CoincideRow σ e.left e.right)
@@ -49,9 +50,9 @@ module _ {ks vs : List ℕ} {σ : ℕ → Term} {τ : Term → Term} {par₀ par
   kept : (z a b : ℕ) → get_or par z 0 ≡ a + 1 → get_or par' z 0 ≡ b + 1 → b ≡ a
   kept z a b p q = omega (arith, m.keeps z a p)
 
-  row : same ≡ true → (i : ℕ) → i < done + 1 → Dec (i ≡ done) → (z : ℕ) → get_or par' (get_or queue' i 0) 0 ≡ z + 1 → Matched ks vs τ par' (get_or queue' i 0) z
+  row : same ≡ true → (i : ℕ) → i < done + 1 → Dec (i ≡ done) → (z : ℕ) → get_or par' (low_half (get_or queue' i 0)) 0 ≡ z + 1 → Matched ks vs τ par' (low_half (get_or queue' i 0)) z
   row f i h (yes q) z e =
-      let qx : get_or queue' i 0 ≡ x = ap (λ (v : ℕ). get_or queue' v 0) q ∙ m.front done below ∙ sym ex in
+      let qx : low_half (get_or queue' i 0) ≡ x = ap (λ (v : ℕ). low_half (get_or queue' v 0)) q ∙ ap low_half (m.front done below) ∙ sym ex in
       let zy : z ≡ y = kept x y z ey (rw qx at e) in
       let d = g.fair x y ey in
       let r : Matched ks vs τ par' x y = record { edge = d; rows = (tells d).yes f } in
@@ -60,9 +61,8 @@ module _ {ks vs : List ℕ} {σ : ℕ → Term} {τ : Term → Term} {par₀ par
       let lt : i < done = omega arith in
       let qi = m.front i (omega arith) in
       let p = (w.listed i (omega arith)).1 in
-      let a : get_or par (get_or queue i 0) 0 ≡ (get_or par (get_or queue i 0) 0 - 1) + 1 = omega arith in
-      let zz = kept (get_or queue i 0) (get_or par (get_or queue i 0) 0 - 1) z a (rw qi at e) in
-      rw (qi, zz) (matched_keeps par par' m.keeps ks vs τ (get_or queue i 0) (get_or par (get_or queue i 0) 0 - 1) (g.rows i lt (get_or par (get_or queue i 0) 0 - 1) a))
+      let zz = kept (low_half (get_or queue i 0)) (high_half (get_or queue i 0)) z p (rw qi at e) in
+      rw (qi, zz) (matched_keeps par par' m.keeps ks vs τ (low_half (get_or queue i 0)) (high_half (get_or queue i 0)) (g.rows i lt (high_half (get_or queue i 0)) p))
 
   pub going_on : same ≡ true → Going ks vs σ τ par₀ par' queue' (done + 1)
   going_on f = record {

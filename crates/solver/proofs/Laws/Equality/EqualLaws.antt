@@ -3,25 +3,27 @@ use mathlib.Core.Bool.{Bool, true, false}
 use mathlib.Core.List.{List}
 use mathlib.Core.Option.{Option}
 use mathlib.Core.Path.{◌≡◌, refl, sym, ap, ◌∙◌}
-use Prim.Native.Nat.{ℕ, ◌+◌, ◌≤◌, ◌<◌}
+use Prim.Native.Nat.{ℕ, ◌+◌, ◌*◌, ◌≤◌, ◌<◌}
 use native.Mathlib.Omega.{arith}
 use native.Mathlib.Decide.{dec_lt}
 use lib.ListN.{length, get_or, set}
-use Rattle.terms.specs.Term.{Term, Held}
+use Rattle.terms.specs.Term.{Term, var, node, Held}
 use Rattle.terms.specs.Tree.{same}
 use Rattle.terms.proofs.Laws.Held.SameLaws.{same_refl, not_same}
 use Rattle.solver.specs.Constrain.{resolve, follow}
+use Rattle.solver.specs.Words.Halves.{low_half, high_half}
 use Rattle.solver.specs.Words.Worklist.{Zero}
 use Rattle.solver.specs.Words.SessionRepresentation.{begins}
 use Rattle.solver.specs.Words.ReachContract.{Steady, Topped}
 use Rattle.solver.specs.Words.CongruenceClasses.{Wired, Advanced, Up, stands_for, Standing, Coincide, Linked, Fair, Outcome}
 use Rattle.solver.proofs.Laws.Resolving.ReachLaws.{by_variable}
-use Rattle.solver.proofs.Laws.Equality.LinkLaws.{up_node, top_less, advanced_link, told_class, told_left, told_right}
+use Rattle.solver.proofs.Laws.Equality.LinkLaws.{begun_below, queue_below, up_node, top_less, advanced_link, told_class, told_left, told_right}
 
 -- nothing is linked yet
-pub wired_none : (ks par queue : List ℕ) → length par ≡ length ks → begins ks ≤ length queue → Zero par → Zero queue → Wired ks par queue 0
-wired_none ks par queue e r y z = record {
+pub wired_none : (ks par queue : List ℕ) → length ks ≤ length par → length ks ≤ 65536 → begins ks ≤ length queue → Zero par → Zero queue → Wired ks par queue 0
+wired_none ks par queue e s r y z = record {
   size = e;
+  small = s;
   room = r;
   falls = λ x. omega (arith, y x);
   nodes = λ x v h. absurd (omega (arith, y x));
@@ -31,16 +33,17 @@ wired_none ks par queue e r y z = record {
   blank = λ i h. z i;
 }
 
--- ---- an entry of the queue is taken: the place that it lists is linked, to a lower one
+-- ---- an entry of the queue is taken: the place that it lists is linked to the other, a lower one
 
 module _ {ks par queue : List ℕ} {top : ℕ} (w : Wired ks par queue top) where
   pub taken_entry : (done : ℕ) → done < top
-      → (get_or queue done 0 < length ks)
-      × (0 < get_or par (get_or queue done 0) 0)
-      × (get_or par (get_or queue done 0) 0 ≤ get_or queue done 0)
+      → (low_half (get_or queue done 0) < length ks)
+      × (high_half (get_or queue done 0) < length ks)
+      × (get_or par (low_half (get_or queue done 0)) 0 ≡ high_half (get_or queue done 0) + 1)
   taken_entry done h =
-      let l = w.listed done h in
-      (omega (arith, l.0, w.size), l.1, w.falls (get_or queue done 0))
+      let below = queue_below ks par queue top w done h in
+      let l = (w.listed done h).1 in
+      (below, omega (arith, below, l, w.falls (low_half (get_or queue done 0))), l)
 
 -- ---- bindings
 
@@ -80,8 +83,9 @@ module _ {ks par queue : List ℕ} {top : ℕ} (w : Wired ks par queue top) {a b
   -- the higher of the two is linked below the lower
   pub record Links (low high : ℕ) : Type 0 where
     pub inside : high < length ks
+    pub free : get_or par high 0 ≡ 0
     pub room : top < length queue
-    pub advanced : Advanced ks par queue top (set par high (low + 1)) (set queue top high) (top + 1)
+    pub advanced : Advanced ks par queue top (set par high (low + 1)) (set queue top (high + 65536 * low)) (top + 1)
     pub terms : Unites (set par high (low + 1))
 
   pub links : x < length par → get_or par x 0 ≡ 0 → y < length par → get_or par y 0 ≡ 0 → (low high : ℕ)
@@ -92,16 +96,18 @@ module _ {ks par queue : List ℕ} {top : ℕ} (w : Wired ks par queue top) {a b
       go (no h) =
           let e = up (omega arith) in
           rw (e.0, e.1) (record {
-            inside = omega (arith, w.size);
-            room = omega (arith, top_less ks par queue top w y x (omega (arith, w.size)) ry (omega arith) node_y node_x, w.room);
-            advanced = advanced_link ks par queue top w y x (omega (arith, w.size)) ry (omega arith) node_y node_x;
+            inside = begun_below ks y (omega (arith, node_y));
+            free = ry;
+            room = omega (arith, top_less ks par queue top w y x (begun_below ks y (omega (arith, node_y))) ry (omega arith) node_y node_x, w.room);
+            advanced = advanced_link ks par queue top w y x (begun_below ks y (omega (arith, node_y))) ry (omega arith) node_y node_x;
             terms = λ vs σ τ t u s ha hb f. told_right σ τ s ks vs par f t u a b ha hb x y ux uy ka kb iy ry;
           })
       go (yes h) =
           let e = down h in
           rw (e.0, e.1) (record {
-            inside = omega (arith, w.size);
-            room = omega (arith, top_less ks par queue top w x y (omega (arith, w.size)) rx h node_x node_y, w.room);
-            advanced = advanced_link ks par queue top w x y (omega (arith, w.size)) rx h node_x node_y;
+            inside = begun_below ks x (omega (arith, node_x));
+            free = rx;
+            room = omega (arith, top_less ks par queue top w x y (begun_below ks x (omega (arith, node_x))) rx h node_x node_y, w.room);
+            advanced = advanced_link ks par queue top w x y (begun_below ks x (omega (arith, node_x))) rx h node_x node_y;
             terms = λ vs σ τ t u s ha hb f. told_left σ τ s ks vs par f t u a b ha hb x y ux uy ka kb ix rx;
           })

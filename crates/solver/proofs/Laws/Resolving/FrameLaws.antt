@@ -1,19 +1,26 @@
 -- Laws of bound runs, of `walk`, and of the stack of runs that wait while a bound variable's run is walked.
 use mathlib.Core.Path.{◌≡◌, refl, sym, ap, ◌∙◌, subst}
 use mathlib.Core.List.{List, [], ◌∷◌, ◌++◌, append_assoc, append-nil}
+use mathlib.Core.Option.{none, some}
+use Rattle.std.proofs.Math.Option.{some-ne-none}
 use Prim.Native.Nat.{ℕ, zero, suc, pred, ◌+◌, ◌-◌, ◌≤◌, ◌<◌}
 use native.Mathlib.Numerals.{add-one}
 use native.Mathlib.Omega.{arith}
 use native.Mathlib.Decide.{ℕ_discrete}
 use borrow.Author.Tests.{le-leb, lt-leb}
-use lib.ListN.{length, get_or, set, length-set}
+use lib.ListN.{length, get_or, set, length-set, length-append, get_or-eq_default}
 use lib.Seq.{get_or-set_same, get_or-set_other}
-use Rattle.terms.specs.Words.Tokens.{Item, item, spell, one}
+use Rattle.terms.specs.Words.Tokens.{Item, spell, one}
 use Rattle.terms.specs.Words.Held.{span}
 use Rattle.terms.proofs.Laws.Format.WriteLaws.{spell_step, spell_none}
+use Rattle.terms.proofs.Laws.Held.HeldLaws.{span_one}
 use Rattle.solver.specs.declared.Stand.{Stand}
-use Rattle.solver.specs.Words.ResolveWalk.{run_len, inner, walk, Entered, walked}
+use Rattle.solver.specs.Words.Bindings.{defaults}
+use Rattle.solver.specs.Words.ResolveWalk.{run_len, inner, default_of, default_in, standing, standing_at, walk, Entered, walked, flat_bytes}
 use Rattle.solver.specs.Words.ResolveFrames.{pend, rest, stand, left, Sound, Apart, Bare, Ready, Settled}
+use Rattle.terms.specs.Words.TokenBytes.{plain}
+use Rattle.solver.proofs.Laws.Resolving.OverLaws.{over-append}
+use Rattle.solver.proofs.Laws.Resolving.DefaultWordLaws.{default_low_code}
 
 -- ---- what a cell names, and what takes a token's place
 
@@ -30,6 +37,13 @@ module _ (ks vs : List ℕ) where
   unfolding run_len
   run_past cell p e h = rw (e, add-one, lt-leb (p + span (get_or ks p 0) (get_or vs p 0)) (length ks) h)
 
+  -- a default names none
+  pub run_default : (word : ℕ) → length ks < defaults → defaults ≤ word → run_len ks vs word ≡ 0
+  run_default word s h =
+      let p = word - 1 in
+      let z = get_or-eq_default ks 0 {n = p} (omega arith) in
+      run_past word p (omega arith) (omega (arith, span_one (get_or ks p 0) (get_or vs p 0) (omega arith)))
+
   module _ (bs : List ℕ) where
     pub inner_var : (k v : ℕ) → k ≡ 1 → inner ks vs bs k v ≡ run_len ks vs (get_or bs v 0)
     unfolding inner
@@ -41,6 +55,32 @@ module _ (ks vs : List ℕ) where
     inner_other (suc zero) v h = absurd (h refl)
     inner_other (suc (suc k)) v h = refl
 
+-- ---- the default that takes a token's place
+
+module _ (bs : List ℕ) where
+  pub default_shut : (n k v : ℕ) → n ≡ 0 → default_in bs n k v ≡ none
+  unfolding default_in
+  default_shut n k v e = rw e
+
+  pub default_other : (n k v : ℕ) → (k ≡ 1 → ⊥) → default_in bs n k v ≡ none
+  unfolding default_in
+  default_other zero k v h = refl
+  default_other (suc n) zero v h = refl
+  default_other (suc n) (suc zero) v h = absurd (h refl)
+  default_other (suc n) (suc (suc k)) v h = refl
+
+  pub default_var : (n k v : ℕ) → (n ≡ 0 → ⊥) → k ≡ 1 → default_in bs n k v ≡ default_of (get_or bs v 0)
+  unfolding default_in
+  default_var zero k v h e = absurd (h refl)
+  default_var (suc n) k v h e = rw e
+
+pub default_in_low : (bs : List ℕ) (n k v c : ℕ) → default_in bs n k v ≡ some c → c < 32
+unfolding default_in
+default_in_low bs zero k v c e = absurd (some-ne-none c (sym e))
+default_in_low bs (suc n) zero v c e = absurd (some-ne-none c (sym e))
+default_in_low bs (suc n) (suc zero) v c e = default_low_code (get_or bs v 0) c e
+default_in_low bs (suc n) (suc (suc k)) v c e = absurd (some-ne-none c (sym e))
+
 -- a run is entered only where one may be
 pub entered_open : (ks vs bs : List ℕ) (p n at len : ℕ) → Entered ks vs bs p n at len → 0 < len → 0 < n
 entered_open ks vs bs p zero at len i h = absurd (omega (arith, i.shut refl))
@@ -49,8 +89,9 @@ entered_open ks vs bs p (suc n) at len i h = omega arith
 -- ---- the walk, with its stack of waiting runs
 
 module _ {A : Type 0} (leaf : ℕ → ℕ → List A) (pre : List A) (ks vs bs : List ℕ) where
-  pub walk_leaf : (n k v len : ℕ) → (0 < n → len ≡ inner ks vs bs k v) → len ≡ 0 → walk leaf pre ks vs bs n k v ≡ leaf k v
-  unfolding walk
+  pub walk_leaf : (n k v len : ℕ) → (0 < n → len ≡ inner ks vs bs k v) → len ≡ 0
+      → walk leaf pre ks vs bs n k v ≡ standing leaf (default_in bs n k v) k v
+  unfolding walk default_in
   walk_leaf zero k v len size e = refl
   walk_leaf (suc n) k v len size e = rw (← size (omega arith), e)
 
@@ -119,9 +160,10 @@ module _ {A : Type 0} (f : ℕ → ℕ → ℕ → List A) (n : ℕ) (ks vs : Li
       rw (append-nil, m, k)
 
 module _ {A : Type 0} (leaf : ℕ → ℕ → List A) (pre : List A) (ks vs bs : List ℕ) (n : ℕ) where
-  -- a token that stands for itself
+  -- a token that is not entered
   pub rest_leaf : (st : List ℕ) (p e d at len : ℕ) → p < e → Entered ks vs bs p (n - d) at len → len ≡ 0
-      → rest (walk leaf pre ks vs bs) n ks vs st p e d ≡ leaf (get_or ks p 0) (get_or vs p 0) ++ rest (walk leaf pre ks vs bs) n ks vs st (p + 1) e d
+      → rest (walk leaf pre ks vs bs) n ks vs st p e d
+      ≡ standing leaf (default_in bs (n - d) (get_or ks p 0) (get_or vs p 0)) (get_or ks p 0) (get_or vs p 0) ++ rest (walk leaf pre ks vs bs) n ks vs st (p + 1) e d
   unfolding rest
   rest_leaf st p e d at len h i z =
       rw (spell_step (walk leaf pre ks vs bs (n - d)) ks vs p e h, walk_leaf leaf pre ks vs bs (n - d) (get_or ks p 0) (get_or vs p 0) len i.size z, append_assoc)
@@ -229,9 +271,17 @@ module _ (ks vs bs : List ℕ) (n : ℕ) where
   -- one turn: the token at the place, and then what is left at the next one
   pub turn : (st : List ℕ) (x : Stand) (st' : List ℕ) (x' : Stand) → Ready ks vs bs n st x → x.at < x.end
       → Settled ks vs bs n st (stand (x.at + 1) x.end x.depth) st' x'
-      → left ks vs bs n st x ≡ item (get_or ks x.at 0) (get_or vs x.at 0) ∷ left ks vs bs n st' x'
+      → left ks vs bs n st x ≡ standing_at ks vs bs (n - x.depth) x.at ++ left ks vs bs n st' x'
   turn st x st' x' r h s =
-      r.head h ∙ ap {B = List Item} (λ l. item (get_or ks x.at 0) (get_or vs x.at 0) ∷ l) (sym s.same)
+      r.head h ∙ ap {B = List Item} (λ l. standing_at ks vs bs (n - x.depth) x.at ++ l) (sym s.same)
+
+  -- its bytes, and how many they are
+  module _ (st : List ℕ) (x : Stand) (st' : List ℕ) (x' : Stand) (t : left ks vs bs n st x ≡ standing_at ks vs bs (n - x.depth) x.at ++ left ks vs bs n st' x') where
+    pub turn_bytes : flat_bytes (left ks vs bs n st x) ≡ flat_bytes (standing_at ks vs bs (n - x.depth) x.at) ++ flat_bytes (left ks vs bs n st' x')
+    turn_bytes = ap flat_bytes t ∙ over-append plain (standing_at ks vs bs (n - x.depth) x.at) (left ks vs bs n st' x')
+
+    pub turn_length : length (flat_bytes (left ks vs bs n st x)) ≡ length (flat_bytes (standing_at ks vs bs (n - x.depth) x.at)) + length (flat_bytes (left ks vs bs n st' x'))
+    turn_length = ap length turn_bytes ∙ length-append (flat_bytes (standing_at ks vs bs (n - x.depth) x.at)) (flat_bytes (left ks vs bs n st' x'))
 
 -- two words stored within the frames
 pub apart_push : (n : ℕ) (st₀ st : List ℕ) (d x y : ℕ) → Apart n st₀ st → d < n → Apart n st₀ (set (set st (d + d) x) (d + d + 1) y)

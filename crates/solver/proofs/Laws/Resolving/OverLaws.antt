@@ -1,23 +1,15 @@
 -- Laws of `over`: what a list of tokens writes.
 use mathlib.Core.Path.{◌≡◌, refl, sym, ap, ◌∙◌}
 use mathlib.Core.List.{List, [], ◌∷◌, ◌++◌, append_assoc}
-use Prim.Native.Nat.{ℕ, zero, suc, ◌+◌}
-use lib.ListN.{length, length-append}
+use Prim.Native.Nat.{ℕ, zero, suc}
 use Rattle.terms.specs.Words.Tokens.{Item, item, spell, toks}
 use Rattle.solver.specs.Words.ResolveWalk.{over}
 
 -- a list of tokens, each by f
 module _ {A : Type 0} (f : ℕ → ℕ → List A) where
-  pub over_cons : (m l : List Item) (k v : ℕ) → m ≡ item k v ∷ l → over f m ≡ f k v ++ over f l
-  unfolding over
-  over_cons m l k v e = ap (over f) e
-
   pub over_none : (m : List Item) → m ≡ [] → over f m ≡ []
   unfolding over
   over_none m e = ap (over f) e
-
-  pub over_length : (m l : List Item) (k v : ℕ) → m ≡ item k v ∷ l → length (over f m) ≡ length (f k v) + length (over f l)
-  over_length m l k v e = ap length (over_cons m l k v e) ∙ length-append (f k v) (over f l)
 
   pub over-append : (l m : List Item) → over f (l ++ m) ≡ over f l ++ over f m
   unfolding over

@@ -10,15 +10,16 @@ use native.Mathlib.Omega.{arith}
 use lib.ListN.{length, get_or, get_or-eq_default}
 use Rattle.terms.specs.Words.Tokens.{Item, spell, toks}
 use Rattle.terms.specs.Term.{Term, var, items, Held}
+use Rattle.terms.specs.Questions.{among, meets}
 use Rattle.terms.proofs.Laws.General.Bools.{never_false}
-use Rattle.solver.specs.Constrain.{replace, followed, resolve, occurs, recovers}
+use Rattle.solver.specs.Constrain.{replace, followed, resolve, occurs, recovers, recovery, is}
 use Rattle.solver.specs.Words.ResolveWalk.{run_len, Named}
-use Rattle.solver.specs.Words.Bindings.{HeldBinding, HeldBindings}
+use Rattle.solver.specs.Words.Bindings.{builtin, HeldWord, HeldWord.placed, HeldWord.coded, HeldBinding, HeldBindings}
 use Rattle.solver.specs.Words.Worklist.{Zero, Work, Grown}
 use Rattle.solver.specs.Words.ReachContract.{has, run_of, Reach, Reach.first, Reach.next, Told, wanted, asked, Steady, Free}
-use Rattle.solver.proofs.Laws.Resolving.FrameLaws.{run_none}
+use Rattle.solver.proofs.Laws.Resolving.FrameLaws.{run_none, run_default}
 use Rattle.solver.proofs.Laws.Resolving.WorklistLaws.{in_range}
-use Rattle.solver.proofs.Laws.Resolving.ResolvedLaws.{replace_var, run_held}
+use Rattle.solver.proofs.Laws.Resolving.ResolvedLaws.{replace_var, run_held, resolve_builtin}
 use Rattle.solver.proofs.Laws.Resolving.AskLaws.{has_start, has_term, itself, through, quiet, kept, unasked}
 
 -- ---- runs
@@ -129,27 +130,36 @@ unfolding resolve replace
 by_variable zero b t = replace_var t
 by_variable (suc n) b t = refl
 
+-- a builtin has nothing that is asked for
+asked_builtin : (q n : ℕ) (b : ℕ → Option Term) (c : ℕ) → asked q (resolve n b (builtin c)) ≡ false
+unfolding wanted recovery among is meets
+asked_builtin zero n b c = ap (asked 0) (resolve_builtin n b c)
+asked_builtin (suc v) n b c = ap (asked (suc v)) (resolve_builtin n b c)
+
 module _ (ks vs bs : List ℕ) (b : ℕ → Option Term) (held : HeldBindings ks vs bs b) where
-  none_there : (word : ℕ) (q : ℕ) → word ≡ 0 → has q (run_of ks vs word) ≡ true → ⊥
-  none_there word q e h =
-      never_false (sym h ∙ ap (has q) (ap (toks ks vs (pred word)) (ap (run_len ks vs) e ∙ run_none ks vs)) ∙ has_start q ks vs (pred word))
+  none_there : (word : ℕ) (q : ℕ) → run_len ks vs word ≡ 0 → has q (run_of ks vs word) ≡ true → ⊥
+  none_there word q e h = never_false (sym h ∙ ap (has q) (ap (toks ks vs (pred word)) e) ∙ has_start q ks vs (pred word))
 
   -- a variable whose run has something is bound to a term that has it
   entered : (q u : ℕ) → has q (run_of ks vs (get_or bs u 0)) ≡ true → (s : Term) × (b u ≡ some s) × (asked q s ≡ true)
-  entered q u h = go (b u) refl (held u)
+  entered q u h = go (b u) refl (held.words u)
     where
       go : (o : Option Term) → b u ≡ o → HeldBinding ks vs o (get_or bs u 0) → (s : Term) × (b u ≡ some s) × (asked q s ≡ true)
-      go none e w = absurd (none_there (get_or bs u 0) q w h)
-      go (some s) e w = (s, e, sym (has_term q s) ∙ sym (ap (has q) (run_items ks vs (get_or bs u 0) w.0 s w.1 w.2)) ∙ h)
+      go none e w = absurd (none_there (get_or bs u 0) q (ap (run_len ks vs) w ∙ run_none ks vs) h)
+      go (some s) e (placed p i g) = (s, e, sym (has_term q s) ∙ sym (ap (has q) (run_items ks vs (get_or bs u 0) p s i g)) ∙ h)
+      go (some s) e (coded c l i f) = absurd (none_there (get_or bs u 0) q (run_default ks vs (get_or bs u 0) held.short (omega arith)) h)
 
-  bound_run : (u : ℕ) (s : Term) → b u ≡ some s → (run_of ks vs (get_or bs u 0) ≡ items s) × (u < length bs)
-  bound_run u s e =
-      let w : HeldBinding ks vs (some s) (get_or bs u 0) = subst (λ (o : Option Term). HeldBinding ks vs o (get_or bs u 0)) e (held u) in
-      (run_items ks vs (get_or bs u 0) w.0 s w.1 w.2, go w.0 w.1 (dec_lt u (length bs)))
+  -- the term of a bound variable: that of its run, or a builtin
+  bound_run : (u : ℕ) (s : Term) → b u ≡ some s → ((run_of ks vs (get_or bs u 0) ≡ items s) × (u < length bs)) ⊎ ((c : ℕ) × (s ≡ builtin c))
+  bound_run u s e = go (subst (λ (o : Option Term). HeldBinding ks vs o (get_or bs u 0)) e (held.words u))
     where
-      go : (p : ℕ) → get_or bs u 0 ≡ p + 1 → Dec (u < length bs) → u < length bs
-      go p x (yes l) = l
-      go p x (no l) = absurd (omega (arith, get_or-eq_default bs 0 {n = u} (omega arith)))
+      low : (p : ℕ) → get_or bs u 0 ≡ p + 1 → Dec (u < length bs) → u < length bs
+      low p x (yes l) = l
+      low p x (no l) = absurd (omega (arith, get_or-eq_default bs 0 {n = u} (omega arith)))
+
+      go : HeldWord ks vs s (get_or bs u 0) → ((run_of ks vs (get_or bs u 0) ≡ items s) × (u < length bs)) ⊎ ((c : ℕ) × (s ≡ builtin c))
+      go (placed p i g) = inl (run_items ks vs (get_or bs u 0) p s i g, low p i (dec_lt u (length bs)))
+      go (coded c l i f) = inr (c, f)
 
   module _ (n : ℕ) (S : Steady n b) (q : ℕ) (f : Free q b) where
     -- what a term has, it has resolved
@@ -182,9 +192,12 @@ module _ (ks vs bs : List ℕ) (b : ℕ → Option Term) (held : HeldBindings ks
                 → (w : ℕ) → asked (suc w) s ≡ true → (o : Option Term) → b w ≡ o → asked q (followed w o (λ u. resolve m b u)) ≡ false
             cell ih w o none d = unasked q w s e o
             cell ih w o (some u) d =
-                let x = bound_run w u d in
+                ⊎_elim
+                (λ x.
                 let c = r w x.1 o in
-                ih u (sym (has_term q u) ∙ sym (ap (has q) x.0) ∙ no w c) (λ v l i. next c l (ap (has (suc v)) x.0 ∙ has_term (suc v) u ∙ i))
+                ih u (sym (has_term q u) ∙ sym (ap (has q) x.0) ∙ no w c) (λ v l i. next c l (ap (has (suc v)) x.0 ∙ has_term (suc v) u ∙ i)))
+                (λ x. ap (asked q) (ap (resolve m b) x.1) ∙ asked_builtin q m b x.0)
+                (bound_run w u d)
 
       told_root : (hit : Bool) → Told ks vs bs root q hit → hit ≡ asked q (resolve n b t)
       told_root true T =
@@ -210,3 +223,11 @@ asks_variable v t = refl
 pub asks_recovery : (t : Term) → asked 0 t ≡ recovers t
 unfolding wanted
 asks_recovery t = refl
+
+-- a builtin has neither
+pub builtin_free : (v : ℕ) {t : Term} (n : ℕ) (b : ℕ → Option Term) (c : ℕ) → t ≡ builtin c → false ≡ occurs v (resolve n b t)
+builtin_free v {t} n b c e =
+    sym (sym (asks_variable v (resolve n b t)) ∙ ap (λ (u : Term). asked (suc v) (resolve n b u)) e ∙ asked_builtin (suc v) n b c)
+
+pub builtin_whole : {t : Term} (n : ℕ) (b : ℕ → Option Term) (c : ℕ) → t ≡ builtin c → false ≡ recovers (resolve n b t)
+builtin_whole {t} n b c e = sym (sym (asks_recovery (resolve n b t)) ∙ ap (λ (u : Term). asked 0 (resolve n b u)) e ∙ asked_builtin 0 n b c)

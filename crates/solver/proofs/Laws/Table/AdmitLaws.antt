@@ -3,23 +3,30 @@ use mathlib.Core.Path.{◌≡◌, refl, sym, ap, ap₂, ◌∙◌, subst}
 use mathlib.Core.Bool.{Bool, true, false, not}
 use mathlib.Core.List.{List}
 use mathlib.Core.Option.{Option, none, some}
-use Prim.Native.Nat.{ℕ, ◌+◌, ◌≤◌, ◌<◌}
+use Prim.Native.Nat.{ℕ, ◌+◌, ◌<◌}
 use native.Mathlib.Omega.{arith}
 use native.Mathlib.Decide.{ℕ_discrete}
 use borrow.Author.Tests.{eq-eqb, ne_eqb}
 use lib.Bits.{bit_and}
 use lib.Dec.{eqb}
-use lib.ListN.{length, get_or, set}
-use Rattle.terms.specs.Term.{Term, Parts, var, node, end, num, items, Held}
-use Rattle.terms.proofs.Laws.Held.HeldLaws.{head_kind, head_value, held_first, held_node, held_num, row_num, row_end}
+use lib.ListN.{length, get_or, set, drop}
+use Rattle.terms.specs.Term.{Term, var, node, end, num, Held, Parts}
+use Rattle.terms.proofs.Laws.Held.HeldLaws.{head_kind, head_value, held_first}
 use Rattle.unify.specs.Solver.{put}
 use Rattle.unify.specs.Term.{clash}
 use Rattle.solver.specs.declared.Solver.{Solver}
+use Rattle.solver.specs.declared.ChainEnd.{ChainEnd}
+use Rattle.solver.specs.declared.ChainEnd.TheVariants.{At, Default}
+use Rattle.solver.specs.Words.Bindings.{HeldWord}
+use Rattle.solver.specs.Words.ChainEnds.{HeldEnd, chain_word}
+use Rattle.solver.specs.Words.TableLayout.{lasting_words}
 use Rattle.solver.specs.Families.{Family, Request, belongs, meet}
 use Rattle.solver.specs.Constrain.{Requests, joined, join, allow, admit}
 use Rattle.solver.specs.Session.{Session, with_solver}
+use Rattle.solver.specs.Words.Bindings.{builtin}
 use Rattle.solver.specs.Words.SessionRepresentation.{bit, RequestWord, request_in, HeldRequest, Represents}
 use Rattle.solver.specs.Words.MethodContract.{Beside, is_some, at_most, bound_to, mask_in, joined_word, Handed}
+use Rattle.solver.proofs.Laws.Resolving.ChainEndLaws.{end_word_held, Coded, coded_words, coded_is}
 use Rattle.solver.proofs.Laws.Definition.RequestLaws.{belongs_builtin, belongs_none}
 use Rattle.solver.proofs.Laws.Table.RequestWordLaws.{bit_high, masks, word_admits, words_apart, words_meet, joined-none, held_none, held_some}
 use Rattle.solver.proofs.Laws.Table.MethodLaws.{beside_set, request_near, lent_request, lent_bound}
@@ -27,65 +34,51 @@ use Rattle.solver.proofs.Laws.Table.MethodLaws.{beside_set, request_near, lent_r
 -- ---- a builtin, by its tokens
 
 module _ (ks vs : List ℕ) (q : ℕ) where
-  pub record Builtin (c : ℕ) : Type 0 where
-    pub head : get_or ks q 0 ≡ 6
-    pub span : get_or vs q 0 ≡ 2
-    pub room : q + 2 ≤ length ks
-    pub number : get_or ks (q + 1) 0 ≡ 0
-    pub code : get_or vs (q + 1) 0 ≡ c
-
-  pub builtin_words : (c : ℕ) → Held ks vs q (node 4 (num c end)) → Builtin c
-  unfolding head_kind head_value items
-  builtin_words c h =
-      let f = held_first ks vs q (node 4 (num c end)) h in
-      let r = held_num ks vs (q + 1) _ c end (held_node ks vs q 4 (num c end) h) in
-      record { head = f.0; span = f.1; room = h.within; number = r.0; code = r.1 }
-
   -- no builtin has these tokens
-  pub no_builtin : (f : Family) → ((c : ℕ) → Builtin c → ⊥) → (t : Term) → Held ks vs q t → false ≡ belongs f t
-  no_builtin f n t h = sym (belongs_none f t (λ c e. n c (builtin_words c (subst (λ (u : Term). Held ks vs q u) e h))))
-
-  -- a term with these tokens is a builtin
-  pub is_builtin : get_or ks q 0 ≡ 6 → get_or vs q 0 ≡ 2 → get_or ks (q + 1) 0 ≡ 0 → (t : Term) → Held ks vs q t → t ≡ node 4 (num (get_or vs (q + 1) 0) end)
-  unfolding head_kind head_value items
-  is_builtin a b d (var w) h = absurd (omega (arith, (held_first ks vs q (var w) h).0))
-  is_builtin a b d (node k ps) h =
-      let f = held_first ks vs q (node k ps) h in
-      let e : k ≡ 4 = omega (arith, f.0) in
-      let g = held_node ks vs q k ps h in
-      let r = row_num ks vs (q + 1) _ ps g (omega (arith, f.1)) d in
-      let z : r.1 ≡ end = row_end ks vs (q + 1 + 1) _ r.1 r.4 (omega (arith, f.1)) in
-      rw (e, r.2, z, r.3)
+  pub no_builtin : (f : Family) → ((c : ℕ) → Coded ks vs q c → ⊥) → (t : Term) → Held ks vs q t → false ≡ belongs f t
+  no_builtin f n t h = sym (belongs_none f t (λ c e. n c (coded_words ks vs q c (subst (λ (u : Term). Held ks vs q u) e h))))
 
   -- a builtin, by the bit of its code
   module _ (word : ℕ) (W : RequestWord word) (a : get_or ks q 0 ≡ 6) (b : get_or vs q 0 ≡ 2) (d : get_or ks (q + 1) 0 ≡ 0) where
     pub builtin_bit : (t : Term) → Held ks vs q t → bit (mask_in word) (get_or vs (q + 1) 0) ≡ belongs (request_in word).family t
     builtin_bit t h =
-        sym (ap (belongs (request_in word).family) (is_builtin a b d t h) ∙ belongs_builtin (request_in word).family (get_or vs (q + 1) 0) ∙ word_admits word W (get_or vs (q + 1) 0))
+        sym (ap (belongs (request_in word).family) (coded_is ks vs q a b d t h) ∙ belongs_builtin (request_in word).family (get_or vs (q + 1) 0) ∙ word_admits word W (get_or vs (q + 1) 0))
 
     pub builtin_high : 31 < get_or vs (q + 1) 0 → (t : Term) → Held ks vs q t → false ≡ belongs (request_in word).family t
     builtin_high l t h = sym (bit_high (mask_in word) (get_or vs (q + 1) 0) (masks word W).1 (omega arith)) ∙ builtin_bit t h
 
 -- ---- whether the requests after it are there
 
-module _ (ks vs : List ℕ) (q : ℕ) (rs : Requests) (ws : List ℕ) (held : (u : ℕ) → HeldRequest (rs u) (get_or ws u 0)) (v : ℕ) where
+module _ (rs : Requests) (ws : List ℕ) (held : (u : ℕ) → HeldRequest (rs u) (get_or ws u 0)) (v : ℕ) where
   -- a variable with no request may be bound to any term
   pub admit_free : (t : Term) → get_or ws v 0 ≡ 0 → true ≡ is_some (admit rs (rs v) t)
   unfolding admit
   admit_free t e = rw (held_none (rs v) (get_or ws v 0) (held v) e)
 
   -- a node is of the family or not
-  pub admit_node : (t : Term) (b : Bool) → Held ks vs q t → (get_or ws v 0 ≡ 0 → ⊥) → (get_or ks q 0 ≡ 1 → ⊥)
-      → (RequestWord (get_or ws v 0) → b ≡ belongs (request_in (get_or ws v 0)).family t) → b ≡ is_some (admit rs (rs v) t)
-  unfolding admit allow head_kind
-  admit_node (var w) b h e k d = absurd (k (held_first ks vs q (var w) h).0)
-  admit_node (node j ps) b h e k d =
+  admit_family : (j : ℕ) (ps : Parts) (b : Bool) → (get_or ws v 0 ≡ 0 → ⊥)
+      → (RequestWord (get_or ws v 0) → b ≡ belongs (request_in (get_or ws v 0)).family (node j ps)) → b ≡ is_some (admit rs (rs v) (node j ps))
+  unfolding admit allow
+  admit_family j ps b e d =
       let r = held_some (rs v) (get_or ws v 0) (held v) e in
       rw r.1 (d r.0 ∙ sym (some_allow (belongs (request_in (get_or ws v 0)).family (node j ps))))
     where
       some_allow : (x : Bool) → is_some (allow rs x) ≡ x
       some_allow true = refl
       some_allow false = refl
+
+  -- a builtin by the bit of its code
+  pub admit_default : (c : ℕ) (t : Term) (b : Bool) → t ≡ builtin c → (get_or ws v 0 ≡ 0 → ⊥) → b ≡ bit (mask_in (get_or ws v 0)) c → b ≡ is_some (admit rs (rs v) t)
+  admit_default c t b h e d =
+      admit_family 4 (num c end) b e (λ W. d ∙ sym (belongs_builtin (request_in (get_or ws v 0)).family c ∙ word_admits (get_or ws v 0) W c))
+      ∙ ap (λ (y : Term). is_some (admit rs (rs v) y)) (sym h)
+
+module _ (ks vs : List ℕ) (q : ℕ) (rs : Requests) (ws : List ℕ) (held : (u : ℕ) → HeldRequest (rs u) (get_or ws u 0)) (v : ℕ) where
+  pub admit_node : (t : Term) (b : Bool) → Held ks vs q t → (get_or ws v 0 ≡ 0 → ⊥) → (get_or ks q 0 ≡ 1 → ⊥)
+      → (RequestWord (get_or ws v 0) → b ≡ belongs (request_in (get_or ws v 0)).family t) → b ≡ is_some (admit rs (rs v) t)
+  unfolding head_kind
+  admit_node (var w) b h e k d = absurd (k (held_first ks vs q (var w) h).0)
+  admit_node (node j ps) b h e k d = admit_family rs ws held v j ps b e d
 
   -- a variable with no request takes this one
   pub admit_other : (t : Term) → Held ks vs q t → get_or ks q 0 ≡ 1 → get_or ws (get_or vs q 0) 0 ≡ 0 → true ≡ is_some (admit rs (rs v) t)
@@ -118,8 +111,18 @@ module _ (ks vs : List ℕ) (q : ℕ) (rs : Requests) (ws : List ℕ) (held : (u
 
 -- ---- the binding
 
-module _ (x : Solver) (ks vs ts us : List ℕ) (s : Session) (L : Represents x ks vs ts s) (v q : ℕ) (below : v < x.variables)
-    (H : Handed x.variables v (get_or ks q 0) (get_or vs q 0) ts us) where
+-- a token tells whether a term is a variable, and which
+unfoldable pub Tells : ℕ → ℕ → Term → Type 0
+Tells kind val (var w) = (kind ≡ 1) × (val ≡ w)
+Tells kind val (node k ps) = kind ≡ 1 → ⊥
+
+tells_held : (ks vs : List ℕ) (q : ℕ) (t : Term) → Held ks vs q t → Tells (get_or ks q 0) (get_or vs q 0) t
+unfolding Tells head_kind head_value
+tells_held ks vs q (var w) h = held_first ks vs q (var w) h
+tells_held ks vs q (node k ps) h = λ e. omega (arith, (held_first ks vs q (node k ps) h).0)
+
+module _ (x : Solver) (ks vs ts us : List ℕ) (s : Session) (L : Represents x ks vs ts s) (v kind val : ℕ) (below : v < x.variables)
+    (H : Handed x.variables v kind val ts us) where
   held_word : (w : ℕ) (o : Option Request) → w < x.variables → s.solver.requests w ≡ o → HeldRequest o (get_or ts (x.variables + w) 0)
   held_word w o l e =
       subst (λ (p : Option Request). HeldRequest p (get_or ts (x.variables + w) 0)) e
@@ -129,7 +132,7 @@ module _ (x : Solver) (ks vs ts us : List ℕ) (s : Session) (L : Represents x k
       → Represents x ks vs us (with_solver s (record { bindings = s.solver.bindings; requests = rs; revision = s.solver.revision }))
   still rs e f = rw (f, ← e) L
 
-  moves : (w : ℕ) (r : Request) (rs : Requests) → (get_or ts (x.variables + v) 0 ≡ 0 → ⊥) → w < x.variables → get_or ks q 0 ≡ 1 → get_or vs q 0 ≡ w
+  moves : (w : ℕ) (r : Request) (rs : Requests) → (get_or ts (x.variables + v) 0 ≡ 0 → ⊥) → w < x.variables → kind ≡ 1 → val ≡ w
       → HeldRequest (some r) (joined_word (get_or ts (x.variables + v) 0) (get_or ts (x.variables + w) 0)) → put s.solver.requests w (some r) ≡ rs
       → Represents x ks vs us (with_solver s (record { bindings = s.solver.bindings; requests = rs; revision = s.solver.revision }))
   moves w r rs n l k d g f =
@@ -137,12 +140,12 @@ module _ (x : Solver) (ks vs ts us : List ℕ) (s : Session) (L : Represents x k
       let u : us ≡ set ts (x.variables + w) j = H.on n k (omega arith) ∙ rw d in
       rw (u, ← f) (lent_request x ks vs ts s L w j r l g)
 
-  pub lent_handed : (t : Term) (rs : Requests) → Held ks vs q t → at_most x.variables t → admit s.solver.requests (s.solver.requests v) t ≡ some rs
+  pub lent_handed : (t : Term) (rs : Requests) → Tells kind val t → at_most x.variables t → admit s.solver.requests (s.solver.requests v) t ≡ some rs
       → Represents x ks vs us (with_solver s (record { bindings = s.solver.bindings; requests = rs; revision = s.solver.revision }))
-  unfolding admit join joined allow head_kind head_value
+  unfolding Tells admit join joined allow
   lent_handed t rs h a e = go (s.solver.requests v) refl t h a e
     where
-      met : (w : ℕ) (r u : Request) → s.solver.requests v ≡ some r → s.solver.requests w ≡ some u → Held ks vs q (var w) → w < x.variables
+      met : (w : ℕ) (r u : Request) → s.solver.requests v ≡ some r → s.solver.requests w ≡ some u → Tells kind val (var w) → w < x.variables
           → (m : Option Request) → meet r u ≡ m → joined s.solver.requests w m ≡ some rs
           → Represents x ks vs us (with_solver s (record { bindings = s.solver.bindings; requests = rs; revision = s.solver.revision }))
       met w r u p o h l none i j = clash (cc)
@@ -151,51 +154,66 @@ module _ (x : Solver) (ks vs ts us : List ℕ) (s : Session) (L : Represents x k
           let B = held_word w (some u) l o in
           let a = get_or ts (x.variables + v) 0 in
           let b = get_or ts (x.variables + w) 0 in
-          let f = held_first ks vs q (var w) h in
           let e : meet (request_in a) (request_in b) ≡ some g = ap₂ meet (sym A.1) (sym B.1) ∙ i in
           let n : bit_and (mask_in a) (mask_in b) ≡ 0 → ⊥ = λ z. let y = words_apart a b A.0 B.0 z in clash (cc) in
           let W = words_meet a b A.0 B.0 n in
           let y : g ≡ request_in (joined_word a b) = let y = W.1 in cc in
-          moves w g rs (λ z. omega (arith, A.0.some)) l f.0 f.1 (W.0, y) (cc)
+          moves w g rs (λ z. omega (arith, A.0.some)) l h.0 h.1 (W.0, y) (cc)
 
-      towards : (w : ℕ) (r : Request) → s.solver.requests v ≡ some r → Held ks vs q (var w) → w < x.variables
+      towards : (w : ℕ) (r : Request) → s.solver.requests v ≡ some r → Tells kind val (var w) → w < x.variables
           → (o : Option Request) → s.solver.requests w ≡ o → join s.solver.requests r w o ≡ some rs
           → Represents x ks vs us (with_solver s (record { bindings = s.solver.bindings; requests = rs; revision = s.solver.revision }))
       towards w r p h l none o j =
           let A = held_word v (some r) below p in
           let a = get_or ts (x.variables + v) 0 in
-          let f = held_first ks vs q (var w) h in
           let z : get_or ts (x.variables + w) 0 ≡ 0 = held_word w none l o in
           let e : joined_word a (get_or ts (x.variables + w) 0) ≡ a = ap (joined_word a) z ∙ joined-none a A.0 in
-          moves w r rs (λ y. omega (arith, A.0.some)) l f.0 f.1 (subst (λ (n : ℕ). HeldRequest (some r) n) (sym e) A) (cc)
+          moves w r rs (λ y. omega (arith, A.0.some)) l h.0 h.1 (subst (λ (n : ℕ). HeldRequest (some r) n) (sym e) A) (cc)
       towards w r p h l (some u) o j = met w r u p o h l (meet r u) refl j
 
-      belonging : (k : ℕ) (ps : Parts) → Held ks vs q (node k ps) → (b : Bool) → allow s.solver.requests b ≡ some rs
+      belonging : (kind ≡ 1 → ⊥) → (b : Bool) → allow s.solver.requests b ≡ some rs
           → Represents x ks vs us (with_solver s (record { bindings = s.solver.bindings; requests = rs; revision = s.solver.revision }))
-      belonging k ps h true j = still rs (cc) (H.node (λ e. omega (arith, (held_first ks vs q (node k ps) h).0)))
-      belonging k ps h false j = clash (cc)
+      belonging h true j = still rs (cc) (H.node h)
+      belonging h false j = clash (cc)
 
-      go : (o : Option Request) → s.solver.requests v ≡ o → (t : Term) → Held ks vs q t → at_most x.variables t → admit s.solver.requests o t ≡ some rs
+      go : (o : Option Request) → s.solver.requests v ≡ o → (t : Term) → Tells kind val t → at_most x.variables t → admit s.solver.requests o t ≡ some rs
           → Represents x ks vs us (with_solver s (record { bindings = s.solver.bindings; requests = rs; revision = s.solver.revision }))
       go none p t h a j = still rs (cc) (H.none (held_word v none below p))
       go (some r) p (var w) h a j = towards w r p h a (s.solver.requests w) refl j
-      go (some r) p (node k ps) h a j = belonging k ps h (belongs r.family (node k ps)) j
+      go (some r) p (node k ps) h a j = belonging h (belongs r.family (node k ps)) j
 
-  -- the variable v is bound to the term at q
-  pub lent_bind : (y : Solver) (t : Term) (rs : Requests) → Held ks vs q t → at_most x.variables t → admit s.solver.requests (s.solver.requests v) t ≡ some rs
-      → Beside x y us (set us v (q + 1)) → y.issued ≡ x.issued → y.revision ≡ x.revision + 1 → y.kept ≡ x.kept
-      → Represents y ks vs (set us v (q + 1)) (with_solver s (bound_to s.solver v t rs))
-  lent_bind y t rs h a e B i r k =
-      lent_bound x ks vs us (with_solver s (record { bindings = s.solver.bindings; requests = rs; revision = s.solver.revision })) (lent_handed t rs h a e) v q t below h y B i r k
+  -- the variable v is bound to the term of a word
+  pub lent_bind : (y : Solver) (word : ℕ) (t : Term) (rs : Requests) → Tells kind val t → HeldWord ks vs t word → at_most x.variables t
+      → admit s.solver.requests (s.solver.requests v) t ≡ some rs
+      → Beside x y us (set us v word) → y.issued ≡ x.issued → y.revision ≡ x.revision + 1 → y.kept ≡ x.kept
+      → Represents y ks vs (set us v word) (with_solver s (bound_to s.solver v t rs))
+  lent_bind y word t rs g h a e B i r k =
+      lent_bound x ks vs us (with_solver s (record { bindings = s.solver.bindings; requests = rs; revision = s.solver.revision })) (lent_handed t rs g a e) v word t below h y B i r k
 
--- the same, with the counters told, and the variable's index
-module _ (x y : Solver) (ks vs ts us : List ℕ) (v i q : ℕ) (e : i ≡ v) (below : v < x.variables) (H : Handed x.variables i (get_or ks q 0) (get_or vs q 0) ts us)
-    (a : y.variables ≡ x.variables) (b : y.nodes ≡ x.nodes) (c : y.top ≡ x.top) where
-  pub bound_held : y.issued ≡ x.issued → y.revision ≡ x.revision + 1 → y.kept ≡ x.kept → (s : Session) (t : Term) (rs : Requests) → Represents x ks vs ts s
-      → Held ks vs q t → at_most x.variables t → admit s.solver.requests (s.solver.requests v) t ≡ some rs
-      → Represents y ks vs (set us i (q + 1)) (with_solver s (bound_to s.solver v t rs))
-  bound_held n r k s t rs L h m d =
-      let G : Handed x.variables v (get_or ks q 0) (get_or vs q 0) ts us = subst (λ (j : ℕ). Handed x.variables j (get_or ks q 0) (get_or vs q 0) ts us) e H in
-      rw e
-      (lent_bind x ks vs ts us s L v q below G y t rs h m d
-      (beside_set x y us us v (q + 1) (record { variables = a; nodes = b; top = c; size = refl; rest = refl }) (omega arith)) n r k)
+-- what is handed on where v is bound to an end: a place has its token, and a default hands on nothing
+abbrev pub HandedEnd : (m v : ℕ) (ks vs : List ℕ) → ChainEnd → (ts us : List ℕ) → Type 0
+HandedEnd m v ks vs (At p) ts us = Handed m v (get_or ks p 0) (get_or vs p 0) ts us
+HandedEnd m v ks vs (Default b) ts us = us ≡ ts
+
+handed_none : (m v : ℕ) (ts us : List ℕ) → us ≡ ts → Handed m v 0 0 ts us
+handed_none m v ts us e =
+    record { none = λ _. e; node = λ _. e; far = λ _. e; on = λ _ k _. absurd (omega arith); size = ap length e; rest = ap (drop (lasting_words m)) e }
+
+-- the same, with the counters told, by the end
+module _ (x y : Solver) (ks vs ts us : List ℕ) (v word : ℕ) (below : v < x.variables) (a : y.variables ≡ x.variables) (b : y.nodes ≡ x.nodes) (c : y.top ≡ x.top)
+    (n : y.issued ≡ x.issued) (r : y.revision ≡ x.revision + 1) (k : y.kept ≡ x.kept) where
+  bound_told : (kind val : ℕ) → Handed x.variables v kind val ts us → (s : Session) (t : Term) (rs : Requests) → Represents x ks vs ts s
+      → Tells kind val t → HeldWord ks vs t word → at_most x.variables t → admit s.solver.requests (s.solver.requests v) t ≡ some rs
+      → Represents y ks vs (set us v word) (with_solver s (bound_to s.solver v t rs))
+  bound_told kind val H s t rs L g h m d =
+      lent_bind x ks vs ts us s L v kind val below H y word t rs g h m d
+      (beside_set x y us us v word (record { variables = a; nodes = b; top = c; size = refl; rest = refl }) (omega arith)) n r k
+
+  pub bound_held : (q : ChainEnd) → HandedEnd x.variables v ks vs q ts us → word ≡ chain_word q → (s : Session) (t : Term) (rs : Requests) → Represents x ks vs ts s
+      → HeldEnd ks vs t q → at_most x.variables t → admit s.solver.requests (s.solver.requests v) t ≡ some rs
+      → Represents y ks vs (set us v word) (with_solver s (bound_to s.solver v t rs))
+  unfolding Tells
+  bound_held (At p) H e s t rs L h m d =
+      bound_told (get_or ks p 0) (get_or vs p 0) H s t rs L (tells_held ks vs p t h) (rw e (end_word_held ks vs t (At p) h)) m d
+  bound_held (Default q) H e s t rs L h m d =
+      bound_told 0 0 (handed_none x.variables v ts us H) s t rs L (rw h.1 (λ z. omega (arith, z))) (rw e (end_word_held ks vs t (Default q) h)) m d

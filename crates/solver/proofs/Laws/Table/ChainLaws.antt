@@ -3,7 +3,7 @@ use mathlib.Core.Path.{◌≡◌, refl, sym, ap, ◌∙◌, subst}
 use mathlib.Core.Bool.{Bool, true, false}
 use mathlib.Core.List.{List}
 use mathlib.Core.Option.{Option, none, some}
-use Prim.Native.Nat.{ℕ, zero, suc, pred, ◌+◌, ◌*◌, ◌-◌, ◌≤◌, ◌<◌}
+use Prim.Native.Nat.{ℕ, zero, suc, pred, ◌+◌, ◌-◌, ◌≤◌, ◌<◌}
 use native.Mathlib.Nat.{zero-add, add-zero}
 use native.Mathlib.Numerals.{add-one}
 use native.Mathlib.Omega.{arith}
@@ -11,31 +11,38 @@ use native.Mathlib.Decide.{ℕ_discrete}
 use borrow.Author.Tests.{ltb-false}
 use lib.Dec.{ltb}
 use lib.ListN.{length, get_or, take, set}
+use Rattle.std.proofs.Math.Option.{some-ne-none}
 use Rattle.std.specs.Option.{unwrap_or}
 use Rattle.std.specs.Bool.{then_some}
 use lib.Seq.{length-take-le}
 use Rattle.terms.specs.Term.{Term, Parts, var, node, num, end, Held}
-use Rattle.terms.proofs.Laws.Held.HeldLaws.{head_kind, head_value, held_first, items_some}
+use Rattle.terms.proofs.Laws.Held.HeldLaws.{items_some}
+use Rattle.std.specs.Prelude.{Some, None}
+use Rattle.std.specs.declared.option.Option as rust
+use Rattle.unify.specs.Term.{clash}
 use Rattle.unify.specs.Solver.{put, put_same, put_other}
 use Rattle.solver.specs.declared.Solver.{Solver}
 use Rattle.solver.specs.declared.Defaulted.{Defaulted}
 use Rattle.solver.specs.declared.Defaulted.TheVariants.{Requested, Deferred}
-use Rattle.solver.specs.Families.{Request, ranged_at, taken, default_of}
+use Rattle.solver.specs.Families as families
+use Rattle.solver.specs.Families.{Request, ranged_at, taken}
 use Rattle.solver.specs.Constrain as solving
 use Rattle.solver.specs.Constrain.{replace_row, followed, resolve, follow, resolved, top}
 use Rattle.solver.specs.Orders.{order}
 use Rattle.solver.specs.Session.{Limits, Session, issued, with_solver, deferring, settle_at, numeric_at, never_at, numeric_defaults_of, never_defaults_of}
 use Rattle.solver.specs.Invariant.{InOrder}
-use Rattle.solver.specs.Words.Bindings.{HeldBinding, HeldBindings}
+use Rattle.solver.specs.Words.Bindings.{defaults, HeldBinding, HeldBindings, coded}
+use Rattle.solver.specs.Words.ChainEnds.{variable_in}
 use Rattle.solver.specs.Words.ReachContract.{Steady, Topped}
-use Rattle.solver.specs.Words.ResolveWalk.{run_len, Named}
+use Rattle.solver.specs.Words.ResolveWalk.{run_len, Named, default_of}
 use Rattle.solver.specs.Words.SessionRepresentation.{limits_of, RequestWord, request_in, HeldRequest, flag, Represents}
 use Rattle.solver.specs.Words.MethodContract.{Beside, at_most, Low, EndsAt, never_word, default_word, end_word, default_at, defaulted, defaults_by}
 use Rattle.solver.specs.Words.ConstrainContract.{Within}
 use Rattle.solver.specs.Words.TableLayout.{deferrals_from}
+use Rattle.solver.proofs.Laws.Resolving.DefaultWordLaws.{default_low, word_default, word_below}
 use Rattle.solver.proofs.Laws.Resolving.FrameLaws.{run_none}
 use Rattle.solver.proofs.Laws.Resolving.ResolvedLaws.{run_held}
-use Rattle.solver.proofs.Laws.Resolving.TopLaws.{follow_none}
+use Rattle.solver.proofs.Laws.Resolving.TopLaws.{follow_none, follow_node}
 use Rattle.solver.proofs.Laws.Definition.SolverInvariantLaws.{var_within, ordered_within, ordered_steady, ordered_topped, top_low}
 use Rattle.solver.proofs.Laws.Definition.InOrderLaws.{in_order_ordered}
 use Rattle.solver.proofs.Laws.Table.ColumnLaws.{column_read}
@@ -49,54 +56,68 @@ pub end_none : (n : ℕ) (b : ℕ → Option Term) (m v : ℕ) → n ≡ 0 → E
 end_none n b m v e = rw (follow_none n b (var v) e) (λ l. refl)
 
 module _ (ks vs bs : List ℕ) (b : ℕ → Option Term) (held : HeldBindings ks vs bs b) (n v at len : ℕ) (i : Named ks vs (get_or bs v 0) at len) where
-  free_word : (o : Option Term) → HeldBinding ks vs o (get_or bs v 0) → len ≡ 0 → (k : ℕ) → followed v o (λ u. follow k b u) ≡ var v
+  free_word : (o : Option Term) → HeldBinding ks vs o (get_or bs v 0) → default_of (get_or bs v 0) ≡ none → len ≡ 0 → (k : ℕ)
+      → followed v o (λ u. follow k b u) ≡ var v
   unfolding followed
-  free_word none c z k = refl
-  free_word (some t) c z k =
-      absurd (omega (arith, i.size, ap (run_len ks vs) c.1, run_held ks vs c.0 t c.2, items_some t))
+  free_word none c d z k = refl
+  free_word (some t) c d z k =
+      let p = word_below c d in
+      absurd (omega (arith, i.size, ap (run_len ks vs) p.1, run_held ks vs p.0 t p.2, items_some t))
 
   -- v is free
-  pub end_free : (m : ℕ) → (n ≡ 0 → ⊥) → len ≡ 0 → EndsAt m (follow n b (var v)) v
+  pub end_free : (m : ℕ) → default_of (get_or bs v 0) ≡ none → (n ≡ 0 → ⊥) → len ≡ 0 → EndsAt m (follow n b (var v)) v
   unfolding follow
-  end_free m e z = go n e
+  end_free m d e z = go n e
     where
       go : (k : ℕ) → (k ≡ 0 → ⊥) → EndsAt m (follow k b (var v)) v
       go zero e = absurd (e refl)
-      go (suc k) e = rw (free_word (b v) (held v) z k) (λ l. refl)
+      go (suc k) e = rw (free_word (b v) (held.words v) d z k) (λ l. refl)
 
-  bound_word : (o : Option Term) → HeldBinding ks vs o (get_or bs v 0) → (len ≡ 0 → ⊥) → (k : ℕ)
+  bound_word : (o : Option Term) → HeldBinding ks vs o (get_or bs v 0) → default_of (get_or bs v 0) ≡ none → (len ≡ 0 → ⊥) → (k : ℕ)
       → (t : Term) × Held ks vs at t × (followed v o (λ u. follow k b u) ≡ follow k b t)
   unfolding followed
-  bound_word none c z k = absurd (z (i.size ∙ ap (run_len ks vs) c ∙ run_none ks vs))
-  bound_word (some t) c z k =
-      let p : at ≡ c.0 = i.place (omega arith) ∙ ap pred c.1 ∙ omega arith in
-      (t, rw p c.2, refl)
+  bound_word none c d z k = absurd (z (i.size ∙ ap (run_len ks vs) c ∙ run_none ks vs))
+  bound_word (some t) c d z k =
+      let x = word_below c d in
+      let p : at ≡ x.0 = i.place (omega arith) ∙ ap pred x.1 ∙ omega arith in
+      (t, rw p x.2, refl)
 
   -- v is bound: its chain is that of the term at its run
-  pub end_bound : (n ≡ 0 → ⊥) → (len ≡ 0 → ⊥) → (t : Term) × Held ks vs at t × (follow n b (var v) ≡ follow (n - 1) b t)
+  pub end_bound : default_of (get_or bs v 0) ≡ none → (n ≡ 0 → ⊥) → (len ≡ 0 → ⊥) → (t : Term) × Held ks vs at t × (follow n b (var v) ≡ follow (n - 1) b t)
   unfolding follow
-  end_bound e z = go n e
+  end_bound d e z = go n e
     where
       go : (k : ℕ) → (k ≡ 0 → ⊥) → (t : Term) × Held ks vs at t × (follow k b (var v) ≡ follow (k - 1) b t)
       go zero e = absurd (e refl)
-      go (suc k) e = let q : suc k - 1 ≡ k = omega arith in rw q (bound_word (b v) (held v) z k)
+      go (suc k) e = let q : suc k - 1 ≡ k = omega arith in rw q (bound_word (b v) (held.words v) d z k)
 
--- the term at the end of the chain, by its first token
-module _ (ks vs : List ℕ) (q m : ℕ) where
-  pub ends_node : (t : Term) → Held ks vs q t → (get_or ks q 0 ≡ 1 → ⊥) → EndsAt m t m
-  unfolding head_kind
-  ends_node (var w) h e = absurd (e (held_first ks vs q (var w) h).0)
-  ends_node (node k ps) h e = refl
+-- v is bound to a builtin
+pub end_code : (ks vs bs : List ℕ) (b : ℕ → Option Term) → HeldBindings ks vs bs b → (n v m c : ℕ) → (n ≡ 0 → ⊥) → default_of (get_or bs v 0) ≡ some c
+    → EndsAt m (follow n b (var v)) m
+unfolding follow followed
+end_code ks vs bs b held zero v m c e d = absurd (e refl)
+end_code ks vs bs b held (suc n) v m c e d = go (b v) (held.words v)
+  where
+    go : (o : Option Term) → HeldBinding ks vs o (get_or bs v 0) → EndsAt m (followed v o (λ u. follow n b u)) m
+    go none h = absurd (some-ne-none c (sym d ∙ default_low (get_or bs v 0) (omega (arith, h))))
+    go (some t) h = rw ((word_default h held.short c d).1, follow_node n b 4 (num c end)) refl
 
-  pub ends_far : (t : Term) → Held ks vs q t → m ≤ get_or vs q 0 → EndsAt m t m
-  unfolding head_value
-  ends_far (var w) h e = λ l. absurd (omega (arith, (held_first ks vs q (var w) h).1))
-  ends_far (node k ps) h e = refl
+-- the term at the end of the chain, by the variable that it is
+module _ (m : ℕ) where
+  pub ends_node : (t : Term) → None ≡ variable_in t → EndsAt m t m
+  ends_node (var w) e = clash (cc)
+  ends_node (node k ps) e = refl
 
-  pub ends_near : (t : Term) → Held ks vs q t → get_or ks q 0 ≡ 1 → EndsAt m t (get_or vs q 0)
-  unfolding head_kind head_value
-  ends_near (var w) h e = λ l. (held_first ks vs q (var w) h).1
-  ends_near (node k ps) h e = absurd (omega (arith, (held_first ks vs q (node k ps) h).0))
+  pub ends_variable : (t : Term) (w : ℕ) → Some w ≡ variable_in t → EndsAt m t (unwrap_or (then_some (ltb w m) w) m)
+  ends_variable (node k ps) w e = clash (cc)
+  ends_variable (var u) w e = go (ltb w m) refl
+    where
+      same : w ≡ u
+      same = cc
+
+      go : (b : Bool) → ltb w m ≡ b → u < m → unwrap_or (then_some b w) m ≡ u
+      go true f l = same
+      go false f l = absurd (omega (arith, ltb-false w m f, same))
 
 -- ---- chains stay among the variables of the table
 
@@ -169,7 +190,7 @@ module _ (which : Defaulted) (x : Solver) (ks vs ts : List ℕ) (s : Session) (L
   settling Requested e n =
       let r = held_some (s.solver.requests v) word (requested_as e) n in
       record {
-        builtin = λ w. default_of (request_in word) (s.solver.requests w);
+        builtin = λ w. families.default_of (request_in word) (s.solver.requests w);
         settles = rw r.1;
         coded = λ w c l h. ap (λ (k : ℕ). node 4 (num k end)) (sym (h (s.solver.requests w) r.0 (asked w l)));
       }
@@ -209,20 +230,17 @@ module _ (which : Defaulted) (x : Solver) (ks vs ts : List ℕ) (s : Session) (L
         go (node k ps) f o = L
 
     -- the chain ends at the variable w
-    pub settled_bound : (y : Solver) (c : ℕ) → w < x.variables → Coded which w c → c < 32 → Beside x y ts (set ts w (2 * c + 1))
+    pub settled_bound : (y : Solver) (c : ℕ) → w < x.variables → Coded which w c → c < 32 → Beside x y ts (set ts w (defaults + c))
         → y.issued ≡ x.issued → y.revision ≡ x.revision + 1 → y.kept ≡ x.kept
-        → Represents y ks vs (set ts w (2 * c + 1)) (with_solver s (default_at which s v))
+        → Represents y ks vs (set ts w (defaults + c)) (with_solver s (default_at which s v))
     unfolding settle_at
     settled_bound y c l h o B i r k = rw default.settles (go (top s.solver (var v)) ends most)
       where
-        a : 2 * c + 1 ≡ c + c + 1
-        a = omega arith
-
         go : (t : Term) → EndsAt x.variables t w → at_most x.variables t
-            → Represents y ks vs (set ts w (2 * c + 1)) (with_solver s (settle_at s.solver default.builtin t))
+            → Represents y ks vs (set ts w (defaults + c)) (with_solver s (settle_at s.solver default.builtin t))
         go (var u) f q =
             let g : w ≡ u = f q in
-            rw (a, ← g, default.coded w c l h) (lent_bound x ks vs ts s L w (c + c) (node 4 (num c end)) l (L.builtins c o) y (rw a at B) i r k)
+            rw (← g, default.coded w c l h) (lent_bound x ks vs ts s L w (defaults + c) (node 4 (num c end)) l (coded c o refl refl) y B i r k)
         go (node j ps) f q = absurd (let g = f in omega arith)
 
 -- ---- all of them, by rising id
@@ -344,11 +362,11 @@ module _ (x : Solver) (ks₀ vs₀ ts : List ℕ) (s : Session) (A : InOrder (is
       go (var w) h = let f = L.fits.variables in omega (arith, var_within (issued s) w h)
       go (node k ps) h = tt
 
--- the term t, whose top is at q of areas that may be longer
+-- the term t, by the variable of its top
 module _ {x : Solver} {ks₀ vs₀ ts : List ℕ} {s : Session} (A : InOrder (issued s) s.solver) (L : Represents x ks₀ vs₀ ts s) where
-  module _ {ks vs : List ℕ} (t : Term) {q : ℕ} (h : Held ks vs q (follow x.revision s.solver.bindings t)) where
-    atop : Held ks vs q (top s.solver t)
-    atop = subst (λ (m : ℕ). Held ks vs q (follow m s.solver.bindings t)) L.revision h
+  module _ (t : Term) {r : rust.Option ℕ} (h : r ≡ variable_in (follow x.revision s.solver.bindings t)) where
+    atop : r ≡ variable_in (top s.solver t)
+    atop = subst (λ (m : ℕ). r ≡ variable_in (follow m s.solver.bindings t)) L.revision h
 
     S : Steady s.solver.revision s.solver.bindings
     S = ordered_steady (issued s) s.solver (in_order_ordered (issued s) s.solver A)
@@ -357,36 +375,27 @@ module _ {x : Solver} {ks₀ vs₀ ts : List ℕ} {s : Session} (A : InOrder (is
     T = ordered_topped (issued s) s.solver (in_order_ordered (issued s) s.solver A)
 
     -- no variable at the top
-    pub deferred_none : (get_or ks q 0 ≡ 1 → ⊥) → Represents x ks₀ vs₀ ts (deferring s (resolved s.solver t))
-    unfolding head_kind deferring
+    pub deferred_none : r ≡ None → Represents x ks₀ vs₀ ts (deferring s (resolved s.solver t))
+    unfolding deferring
     deferred_none e = go (top s.solver t) refl
       where
         go : (u : Term) → top s.solver t ≡ u → Represents x ks₀ vs₀ ts (deferring s (resolved s.solver t))
-        go (var w) f = absurd (e (held_first ks vs q (var w) (subst (λ (y : Term). Held ks vs q y) f atop)).0)
+        go (var w) f = clash (let d : Some w ≡ None = ap variable_in (sym f) ∙ sym atop ∙ e in cc)
         go (node k ps) f = rw (resolves_node s.solver.revision s.solver.bindings S T t k ps f).1 L
 
     -- the variable at the top
-    top_variable : get_or ks q 0 ≡ 1 → top s.solver t ≡ var (get_or vs q 0)
-    unfolding head_kind head_value
-    top_variable e = go (top s.solver t) refl
+    top_variable : (v : ℕ) → r ≡ Some v → top s.solver t ≡ var v
+    top_variable v e = go (top s.solver t) refl
       where
-        go : (u : Term) → top s.solver t ≡ u → top s.solver t ≡ var (get_or vs q 0)
-        go (var w) f = f ∙ ap var (sym (held_first ks vs q (var w) (subst (λ (y : Term). Held ks vs q y) f atop)).1)
-        go (node k ps) f = absurd (omega (arith, (held_first ks vs q (node k ps) (subst (λ (y : Term). Held ks vs q y) f atop)).0))
+        go : (u : Term) → top s.solver t ≡ u → top s.solver t ≡ var v
+        go (var w) f = let d : Some w ≡ Some v = ap variable_in (sym f) ∙ sym atop ∙ e in let q : w ≡ v = cc in f ∙ ap var q
+        go (node k ps) f = clash (let d : None ≡ Some v = ap variable_in (sym f) ∙ sym atop ∙ e in cc)
 
-    pub deferred_some : {v : ℕ} → v ≡ get_or vs q 0 → get_or ks q 0 ≡ 1 → v < x.variables → Represents x ks₀ vs₀ (set ts (deferrals_from x.variables + v) 1) (deferring s (resolved s.solver t))
-    deferred_some {v} g e l =
-        rw (resolves_variable s.solver.revision s.solver.bindings S T t v (top_variable e ∙ ap var (sym g))) (lent_defer x ks₀ vs₀ ts s L v l)
+    pub deferred_some : (v : ℕ) → r ≡ Some v → v < x.variables → Represents x ks₀ vs₀ (set ts (deferrals_from x.variables + v) 1) (deferring s (resolved s.solver t))
+    deferred_some v e l =
+        rw (resolves_variable s.solver.revision s.solver.bindings S T t v (top_variable v e)) (lent_defer x ks₀ vs₀ ts s L v l)
 
-    pub deferred_far : Within (issued s) t → get_or ks q 0 ≡ 1 → get_or vs q 0 < x.variables
-    deferred_far k e =
+    pub deferred_far : Within (issued s) t → (v : ℕ) → r ≡ Some v → v < x.variables
+    deferred_far k v e =
         let f = L.fits.variables in
-        omega (arith, top_low (issued s) s.solver (in_order_ordered (issued s) s.solver A) t (get_or vs q 0) k (top_variable e))
-
--- where a number is answered if it is below m, or else m
-pub end_below : (m v : ℕ) (t : Term) → EndsAt m t v → (m ≤ v → EndsAt m t m) → EndsAt m t (unwrap_or (then_some (ltb v m) v) m)
-end_below m v t near far = go (ltb v m) refl
-  where
-    go : (b : Bool) → ltb v m ≡ b → EndsAt m t (unwrap_or (then_some b v) m)
-    go true e = near
-    go false e = far (ltb-false v m e)
+        omega (arith, top_low (issued s) s.solver (in_order_ordered (issued s) s.solver A) t v k (top_variable v e))

@@ -3,7 +3,7 @@ use mathlib.Core.Path.{◌≡◌, refl, sym, ap, ◌∙◌, subst}
 use mathlib.Core.Bool.{Bool, true, false, ◌&&◌}
 use mathlib.Core.List.{List, [], ◌∷◌}
 use mathlib.Core.Option.{Option, none, some}
-use Prim.Native.Nat.{ℕ, zero, suc, ◌+◌, ◌*◌, ◌-◌, ◌^◌, ◌≤◌, ◌<◌}
+use Prim.Native.Nat.{ℕ, zero, suc, ◌+◌, ◌-◌, ◌^◌, ◌≤◌, ◌<◌}
 use native.Mathlib.Omega.{arith}
 use native.Mathlib.Decide.{ℕ_discrete}
 use borrow.Author.Tests.{le-leb, lt-leb, leb-true, leb-false, lt-ltb, le-ltb, ltb-true, eq-eqb, ne_eqb}
@@ -11,7 +11,7 @@ use lib.Dec.{eqb, ltb}
 use lib.ListN.{length, get_or, drop, set, length-set}
 use lib.Seq.{length-take-le, take-set-le, take-set-lt, drop-set-lt, get_or-set_same, get_or-set_other}
 use Rattle.terms.specs.Result.{pick}
-use Rattle.terms.specs.Term.{Term, var, Held}
+use Rattle.terms.specs.Term.{Term, var}
 use Rattle.unify.specs.Solver.{put, put_same, put_other}
 use Rattle.unify.specs.Term.{clash}
 use Rattle.solver.specs.declared.Solver.{Solver}
@@ -27,7 +27,7 @@ use Rattle.solver.specs.Families.{Request}
 use Rattle.solver.specs.Session.{Limits, VariablePlace, at, gap, same_place, Session, issued, find, with_solver, issue_at, request, deferring}
 use Rattle.solver.specs.Orders.{full, variable_step, number_at, hole_at}
 use Rattle.solver.specs.Invariant.{WithinLimits}
-use Rattle.solver.specs.Words.Bindings.{HeldBindings}
+use Rattle.solver.specs.Words.Bindings.{HeldWord, HeldBindings}
 use Rattle.solver.specs.Words.Worklist.{Zero}
 use Rattle.solver.specs.Words.SessionRepresentation.{limits_of, binding_words, request_words, place_words, site_words, slot_words, deferral_words, HeldRequest, HeldPlace, HeldPlaces, Unplaced, flag, unused_words, Represents}
 use Rattle.solver.specs.Words.MethodContract.{Beside, matches, last_match, found, placing, placed, named_of, Issued, Replied, reply_of, resolved_reply, joined_word, Handed, never_word, default_word, end_word}
@@ -99,7 +99,6 @@ module _ (x y : Solver) (ks vs ts us : List ℕ) (s : Session) (L : Represents x
         unplaced = subst (λ (m : ℕ). Unplaced (length s'.places) (place_words m us) (site_words m us) (slot_words m us)) e C.unplaced;
         deferred = subst (λ (m : ℕ). (v : ℕ) → get_or (deferral_words m us) v 0 ≡ flag (s'.deferred v)) e C.deferred;
         unused = subst (λ (m : ℕ). Zero (unused_words m us)) e (subst Zero (sym C.unused) L.unused);
-        builtins = L.builtins;
         begun = omega (arith, L.begun, C.sum);
       }
 
@@ -368,10 +367,10 @@ module _ (x : Solver) (ks vs ts : List ℕ) (s : Session) (L : Represents x ks v
           unused = column_before (unused_count m) (unused_from m) ts (deferrals_from m + v) 1 (omega arith);
         })
 
-  -- v is bound to the term at q
-  module _ (v q : ℕ) (t : Term) (below : v < m) (held : Held ks vs q t) where
+  -- v is bound to the term of a word
+  module _ (v word : ℕ) (t : Term) (below : v < m) (held : HeldWord ks vs t word) where
     abbrev binding_at : List ℕ
-    binding_at = set ts v (q + 1)
+    binding_at = set ts v word
 
     pub lent_bound : (y : Solver) → Beside x y ts binding_at → y.issued ≡ x.issued → y.revision ≡ x.revision + 1 → y.kept ≡ x.kept
         → Represents y ks vs binding_at (with_solver s (record { bindings = put s.solver.bindings v (some t); requests = s.solver.requests; revision = suc s.solver.revision }))
@@ -386,12 +385,12 @@ module _ (x : Solver) (ks vs ts : List ℕ) (s : Session) (L : Represents x ks v
           kept = k ∙ L.kept;
           sum = refl;
           most = f;
-          bindings = rw (take-set-lt m ts v (q + 1) below) (bind_held ks vs (binding_words m ts) s.solver.bindings v q t L.bindings (omega (arith, length-take-le m ts (omega arith))) held);
-          requests = fixed_requests binding_at (column_before m m ts v (q + 1) (omega arith));
-          places = fixed_places binding_at (column_before m (places_from m) ts v (q + 1) (omega arith)) (column_before m (sites_from m) ts v (q + 1) (omega arith)) (column_before m (slots_from m) ts v (q + 1) (omega arith));
-          unplaced = fixed_unplaced binding_at (column_before m (places_from m) ts v (q + 1) (omega arith)) (column_before m (sites_from m) ts v (q + 1) (omega arith)) (column_before m (slots_from m) ts v (q + 1) (omega arith));
-          deferred = fixed_deferred binding_at (column_before m (deferrals_from m) ts v (q + 1) (omega arith));
-          unused = column_before (unused_count m) (unused_from m) ts v (q + 1) (omega arith);
+          bindings = rw (take-set-lt m ts v word below) (bind_held ks vs (binding_words m ts) s.solver.bindings v word t L.bindings (omega (arith, length-take-le m ts (omega arith))) held);
+          requests = fixed_requests binding_at (column_before m m ts v word (omega arith));
+          places = fixed_places binding_at (column_before m (places_from m) ts v word (omega arith)) (column_before m (sites_from m) ts v word (omega arith)) (column_before m (slots_from m) ts v word (omega arith));
+          unplaced = fixed_unplaced binding_at (column_before m (places_from m) ts v word (omega arith)) (column_before m (sites_from m) ts v word (omega arith)) (column_before m (slots_from m) ts v word (omega arith));
+          deferred = fixed_deferred binding_at (column_before m (deferrals_from m) ts v word (omega arith));
+          unused = column_before (unused_count m) (unused_from m) ts v word (omega arith);
         })
 
 -- ---- the variable of a place

@@ -1,24 +1,21 @@
--- A session alone in its areas: words cleared, the builtins stored, a fresh session.
+-- A session alone in its areas: words cleared, and a fresh session.
 use mathlib.Core.Path.{◌≡◌, refl, sym, subst, ◌∙◌}
-use mathlib.Core.List.{List, ◌++◌}
-use Prim.Native.Nat.{ℕ, zero, suc, ◌+◌, ◌*◌, ◌^◌, ◌≤◌, ◌<◌}
+use mathlib.Core.List.{List}
+use Prim.Native.Nat.{ℕ, zero, suc, ◌+◌, ◌^◌, ◌≤◌, ◌<◌}
 use native.Mathlib.Decide.{dec_lt}
-use native.Mathlib.Numerals.{add-one}
 use native.Mathlib.Omega.{arith}
-use lib.ListN.{length, get_or, set, take, drop, replicate, length-set, length-replicate, get_or-replicate}
-use lib.Seq.{ext_get_or, length-take-le, take_at, drop_at}
-use Rattle.terms.specs.Words.Tokens.{spell, toks}
-use Rattle.terms.specs.Term.{node, end, num, Held}
+use lib.ListN.{length, get_or, take, drop, replicate, length-replicate, get_or-replicate}
+use lib.Seq.{ext_get_or, get_or-drop, length-take-le}
 use Rattle.solver.specs.declared.Limits.{Limits}
 use Rattle.solver.specs.Session.{fresh}
 use Rattle.solver.specs.Words.ResolveFrames.{Cleared}
-use Rattle.solver.specs.Words.SessionRepresentation.{builtin_tokens, Represents}
+use Rattle.solver.specs.Words.SessionRepresentation.{unused_words}
 use Rattle.solver.specs.Words.SessionsContract.{Holds, counters}
 use Rattle.solver.specs.Words.Worklist.{Zero}
-use Rattle.solver.specs.Words.TableLayout.{lasting_words}
+use Rattle.solver.specs.Words.TableLayout.{unused_from, unused_count, lasting_words}
 use Rattle.solver.proofs.Laws.Resolving.WorklistLaws.{zero_drop}
-use Rattle.solver.proofs.Laws.Table.ColumnLaws.{rest_read}
-use Rattle.solver.proofs.Laws.Table.RepresentationLaws.{builtins_more, builtins_put, builtins_held, lent_fresh}
+use Rattle.solver.proofs.Laws.Table.ColumnLaws.{column_read, rest_read}
+use Rattle.solver.proofs.Laws.Table.RepresentationLaws.{lent_fresh}
 
 -- ---- words all 0
 
@@ -42,55 +39,22 @@ used_cleared n l₀ l e z c = all_zero l (length l₀) e (λ j h. go j (dec_lt j
     go j (yes p) = c.zeros j p
     go j (no p) = c.others j (omega arith) ∙ rest_read n l₀ z j (omega arith)
 
--- the front of a list that is as long as another
-pub front_long : (k : ℕ) (l l₀ : List ℕ) → length l ≡ length l₀ → k ≤ length l₀ → length (take k l) ≡ k
-front_long k l l₀ e h = length-take-le k l (omega arith)
-
--- ---- the builtins
-
--- the first n builtins are stored in two areas of 64 words
-pub record Stored (a b : List ℕ) (n : ℕ) : Type 0 where
-  pub a_long : length a ≡ 64
-  pub b_long : length b ≡ 64
-  pub few : n ≤ 32
-  pub tokens : toks a b 0 (n + n) ≡ builtin_tokens n
-
-pub stored_none : (a b : List ℕ) → length a ≡ 64 → length b ≡ 64 → Stored a b 0
-unfolding spell builtin_tokens
-stored_none a b p q = record { a_long = p; b_long = q; few = omega arith; tokens = refl }
-
-pub stored_more : (a b : List ℕ) (n : ℕ) → Stored a b n → n < 32
-    → Stored (set (set a (n + n) 6) (n + n + 1) 0) (set (set b (n + n) 2) (n + n + 1) n) (n + 1)
-stored_more a b n s h =
-    record {
-      a_long = length-set (set a (n + n) 6) (n + n + 1) 0 ∙ length-set a (n + n) 6 ∙ s.a_long;
-      b_long = length-set (set b (n + n) 2) (n + n + 1) n ∙ length-set b (n + n) 2 ∙ s.b_long;
-      few = omega arith;
-      tokens =
-          subst (λ (k : ℕ). toks (set (set a (n + n) 6) (n + n + 1) 0) (set (set b (n + n) 2) (n + n + 1) n) 0 (k + k) ≡ builtin_tokens k) (sym (add-one n))
-          (builtins_put a b n (omega (arith, s.a_long)) (s.b_long ∙ sym s.a_long) s.tokens);
-    }
-
-pub stored_all : (a b : List ℕ) (n : ℕ) → Stored a b n → 32 ≤ n → (c : ℕ) → c < 32 → Held a b (c + c) (node 4 (num c end))
-stored_all a b n s h c l = builtins_held a b n (omega (arith, s.a_long, s.few)) s.tokens c (omega arith)
-
-tokens_held : (ks vs : List ℕ) (n : ℕ) → ((c : ℕ) → c < n → Held ks vs (c + c) (node 4 (num c end))) → toks ks vs 0 (n + n) ≡ builtin_tokens n
-unfolding spell builtin_tokens
-tokens_held ks vs zero h = refl
-tokens_held ks vs (suc n) h = builtins_more ks vs n (tokens_held ks vs n (λ c l. h c (omega arith))) (h n (omega arith))
+-- of a table only the columns in use are not 0
+pub unused_zero : (m : ℕ) (ts : List ℕ) → Zero (unused_words m ts) → Zero (drop (lasting_words m) ts) → Zero (drop (unused_from m) ts)
+unused_zero m ts u z v = get_or-drop (unused_from m) ts v 0 ∙ go (dec_lt v (unused_count m))
+  where
+    go : Dec (v < unused_count m) → get_or ts (unused_from m + v) 0 ≡ 0
+    go (yes p) = sym (column_read (unused_count m) (unused_from m) ts (unused_from m + v) v refl p) ∙ u v
+    go (no p) = rest_read (lasting_words m) ts z (unused_from m + v) (omega arith)
 
 -- ---- a fresh session
 
-pub holds_fresh : (limits : Limits) (ks vs a b ts : List ℕ) → length ks ≡ 64 → length vs ≡ 64
-    → ((i : ℕ) → i < 32 → Held ks vs (i + i) (node 4 (num i end))) → Zero a → Zero b → Zero ts → limits.variables < 2 ^ 32 → lasting_words limits.variables ≤ length ts
-    → Holds (counters limits) (ks ++ drop 64 a) (vs ++ drop 64 b) ts fresh
-holds_fresh limits ks vs a b ts lk lv h za zb zt narrow room =
+pub holds_fresh : (limits : Limits) (a b ts : List ℕ) → Zero a → Zero b → Zero ts → limits.variables < 2 ^ 32 → lasting_words limits.variables ≤ length ts
+    → Holds (counters limits) a b ts fresh
+holds_fresh limits a b ts za zb zt narrow room =
     record {
-      represents = rw (take_at ks (drop 64 a) 64 lk, take_at vs (drop 64 b) 64 lv) held;
-      kinds = rw (drop_at ks (drop 64 a) 64 lk) (zero_drop 64 a za);
-      vals = rw (drop_at vs (drop 64 b) 64 lv) (zero_drop 64 b zb);
+      represents = lent_fresh (counters limits) (take 0 a) (take 0 b) ts refl refl refl refl (length-take-le 0 a (omega arith)) (length-take-le 0 b (omega arith)) narrow room zt;
+      kinds = za;
+      vals = zb;
       blank = zero_drop (lasting_words limits.variables) ts zt;
     }
-  where
-    held : Represents (counters limits) ks vs ts fresh
-    held = lent_fresh (counters limits) ks vs ts refl refl refl refl lk lv narrow room (tokens_held ks vs 32 h) zt

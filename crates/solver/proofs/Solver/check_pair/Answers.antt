@@ -20,42 +20,53 @@ shallow_resolve-a-requires c = (due_places c.requires.due.3).0
 pub shallow_resolve-b-requires : goal.shallow_resolve-b-requires
 shallow_resolve-b-requires c = (due_places c.requires.due.3).1
 
-pub unify_variable-requires-clause-faces : goal.unify_variable-requires-clause-faces
-unify_variable-requires-clause-faces c =
+pub unify_end-requires-clause-faces : goal.unify_end-requires-clause-faces
+unify_end-requires-clause-faces c =
     let k = c.bindings-bindings.ensures in
     let d = c.requires.due in
-    (d.0, top d.0.solver d.2, due_left d.3 (rw k.1 at (rw k.2 at c.shallow_resolve-a.ensures.term)) (rw k.1 at (rw k.2 at c.shallow_resolve-b.ensures.term)) c.if-tokens-a-eq1.true)
+    let f = (rw k.1 at (rw k.2 at c.shallow_resolve-a.ensures.term)) in
+    let g = (rw k.1 at (rw k.2 at c.shallow_resolve-b.ensures.term)) in
+    (d.0, top d.0.solver d.2, due_left d.3 _ _ f g c.variable_of.ensures c.in-Some.is c.shallow_resolve-b.ensures.inside)
 
-pub returns-then-tokens-a-eq1-clause-after : goal.returns-then-tokens-a-eq1-clause-after
-returns-then-tokens-a-eq1-clause-after c =
+pub returns-in-Some-clause-after : goal.returns-in-Some-clause-after
+returns-in-Some-clause-after c =
     let k = c.bindings-bindings.ensures in
     let f = (rw k.1 at (rw k.2 at c.shallow_resolve-a.ensures.term)) in
     let g = (rw k.1 at (rw k.2 at c.shallow_resolve-b.ensures.term)) in
     λ s t u ps D W.
-    turned_left D f g _ _ (due_same D (rw k.0 at (rw k.1 at (rw k.2 at c.same_terms.ensures.term))) ∙ c.if-same_terms.false) c.if-tokens-a-eq1.true
-    (c.unify_variable.ensures.after s (top s.solver u) (top s.solver t) (top s.solver u) ps _ (due_left D f g c.if-tokens-a-eq1.true) W)
+    turned_left D _ _ f g _ _ (due_same D (rw k.0 at (rw k.1 at (rw k.2 at c.same_terms.ensures.term))) ∙ c.if-same_terms.false) c.variable_of.ensures c.in-Some.is
+    (c.unify_end.ensures.after s (top s.solver u) (top s.solver t) (top s.solver u) ps _
+    (due_left D _ _ f g c.variable_of.ensures c.in-Some.is c.shallow_resolve-b.ensures.inside) W)
 
-pub unify_variable-requires-then-tokens-b-eq1-clause-faces : goal.unify_variable-requires-then-tokens-b-eq1-clause-faces
-unify_variable-requires-then-tokens-b-eq1-clause-faces c =
+pub unify_end-requires-in-Some-variable_of-clause-faces : goal.unify_end-requires-in-Some-variable_of-clause-faces
+unify_end-requires-in-Some-variable_of-clause-faces c =
     let k = c.bindings-bindings.ensures in
     let d = c.requires.due in
-    (d.0, top d.0.solver d.1, due_right d.3 (rw k.1 at (rw k.2 at c.shallow_resolve-a.ensures.term)) (rw k.1 at (rw k.2 at c.shallow_resolve-b.ensures.term)) c.if-tokens-b-eq1.true)
+    let f = (rw k.1 at (rw k.2 at c.shallow_resolve-a.ensures.term)) in
+    let g = (rw k.1 at (rw k.2 at c.shallow_resolve-b.ensures.term)) in
+    (d.0, top d.0.solver d.1, due_right d.3 _ _ f g c.variable_of-2.ensures c.in-Some-variable_of.is c.shallow_resolve-a.ensures.inside)
 
-pub returns-then-tokens-b-eq1-clause-after : goal.returns-then-tokens-b-eq1-clause-after
-returns-then-tokens-b-eq1-clause-after c =
+pub returns-in-Some-variable_of-clause-after : goal.returns-in-Some-variable_of-clause-after
+returns-in-Some-variable_of-clause-after c =
     let k = c.bindings-bindings.ensures in
     let f = (rw k.1 at (rw k.2 at c.shallow_resolve-a.ensures.term)) in
     let g = (rw k.1 at (rw k.2 at c.shallow_resolve-b.ensures.term)) in
     λ s t u ps D W.
-    turned_right D f g _ _ (due_same D (rw k.0 at (rw k.1 at (rw k.2 at c.same_terms.ensures.term))) ∙ c.if-same_terms.false) c.if-tokens-a-eq1.false c.if-tokens-b-eq1.true
-    (c.unify_variable-then-tokens-b-eq1.ensures.after s (top s.solver t) (top s.solver t) (top s.solver u) ps _ (due_right D f g c.if-tokens-b-eq1.true) W)
+    turned_right D _ _ f g _ _ (due_same D (rw k.0 at (rw k.1 at (rw k.2 at c.same_terms.ensures.term))) ∙ c.if-same_terms.false)
+    c.variable_of.ensures c.in_default.is c.variable_of-2.ensures c.in-Some-variable_of.is
+    (c.unify_end-in-Some-variable_of.ensures.after s (top s.solver t) (top s.solver t) (top s.solver u) ps _
+    (due_right D _ _ f g c.variable_of-2.ensures c.in-Some-variable_of.is c.shallow_resolve-a.ensures.inside) W)
 
-pub decompose-requires-clause-nodes : goal.decompose-requires-clause-nodes
-decompose-requires-clause-nodes c =
+pub decompose-requires-clause-met : goal.decompose-requires-clause-met
+decompose-requires-clause-met c =
     let k = c.bindings-bindings.ensures in
     let d = c.requires.due in
-    let N = due_nodes d.3 (rw k.1 at (rw k.2 at c.shallow_resolve-a.ensures.term)) (rw k.1 at (rw k.2 at c.shallow_resolve-b.ensures.term)) c.if-tokens-a-eq1.false c.if-tokens-b-eq1.false in
-    (top d.0.solver d.1, top d.0.solver d.2, N)
+    let f = (rw k.1 at (rw k.2 at c.shallow_resolve-a.ensures.term)) in
+    let g = (rw k.1 at (rw k.2 at c.shallow_resolve-b.ensures.term)) in (
+      top d.0.solver d.1,
+      top d.0.solver d.2,
+      due_nodes d.3 _ _ f g c.variable_of.ensures c.in_default.is c.variable_of-2.ensures c.in_default-variable_of.is c.shallow_resolve-a.ensures.inside c.shallow_resolve-b.ensures.inside,
+    )
 
 pub returns-clause-after : goal.returns-clause-after
 returns-clause-after c =
@@ -63,6 +74,7 @@ returns-clause-after c =
     let f = (rw k.1 at (rw k.2 at c.shallow_resolve-a.ensures.term)) in
     let g = (rw k.1 at (rw k.2 at c.shallow_resolve-b.ensures.term)) in
     λ s t u ps D W.
-    let N = due_nodes D f g c.if-tokens-a-eq1.false c.if-tokens-b-eq1.false in
-    turned_nodes D f g _ _ (due_same D (rw k.0 at (rw k.1 at (rw k.2 at c.same_terms.ensures.term))) ∙ c.if-same_terms.false) c.if-tokens-a-eq1.false c.if-tokens-b-eq1.false
-    (c.decompose.ensures.after s (top s.solver t) (top s.solver u) ps _ D.represents N W)
+    let M = due_nodes D _ _ f g c.variable_of.ensures c.in_default.is c.variable_of-2.ensures c.in_default-variable_of.is c.shallow_resolve-a.ensures.inside c.shallow_resolve-b.ensures.inside in
+    turned_nodes D _ _ f g _ _ (due_same D (rw k.0 at (rw k.1 at (rw k.2 at c.same_terms.ensures.term))) ∙ c.if-same_terms.false)
+    c.variable_of.ensures c.in_default.is c.variable_of-2.ensures c.in_default-variable_of.is
+    (c.decompose.ensures.after s (top s.solver t) (top s.solver u) ps _ D.represents M W)

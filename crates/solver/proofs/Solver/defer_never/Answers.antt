@@ -1,29 +1,26 @@
--- `Solver::defer_never`. By the token at the top.
-use mathlib.Core.Path.{refl}
+-- `Solver::defer_never`. By the variable at the top.
 use native.Mathlib.Omega.{arith}
 use Rattle.solver.proofs.Laws.Table.ChainLaws.{deferred_none, deferred_some, deferred_far}
 use Rattle.solver.proofs.Laws.Table.OrderTermLaws.{poses_inside, behind_bindings}
 use Rattle.solver.proofs.Solver.defer_never.Goals as goal
 
-pub shallow_resolve-q-requires : goal.shallow_resolve-q-requires
-shallow_resolve-q-requires c = poses_inside c.requires.2
+pub shallow_resolve-end-requires : goal.shallow_resolve-end-requires
+shallow_resolve-end-requires c = poses_inside c.requires.2
 
 pub returns-then-v-m-clause-held : goal.returns-then-v-m-clause-held
 returns-then-v-m-clause-held c =
-    let t = c.shallow_resolve-q.ensures in
     λ s u P.
-    deferred_some P.behind.ordered P.behind.represents u (t.term u s.solver.bindings P.held (behind_bindings P.behind)) refl
-    c.if-tokens-q-eq1.true c.if-v-m.true
+    let h = c.variable_of.ensures _ (c.shallow_resolve-end.ensures.term u s.solver.bindings P.held (behind_bindings P.behind)) in
+    deferred_some P.behind.ordered P.behind.represents u h c.in-Some.w c.in-Some.is c.if-v-m.true
 
 pub returns-else-v-m-clause-held : goal.returns-else-v-m-clause-held
 returns-else-v-m-clause-held c =
-    let t = c.shallow_resolve-q.ensures in
     λ s u P.
-    let h = t.term u s.solver.bindings P.held (behind_bindings P.behind) in
-    absurd (omega (arith, deferred_far P.behind.ordered P.behind.represents u h P.within c.if-tokens-q-eq1.true, c.if-v-m.false))
+    let h = c.variable_of.ensures _ (c.shallow_resolve-end.ensures.term u s.solver.bindings P.held (behind_bindings P.behind)) in
+    absurd (omega (arith, deferred_far P.behind.ordered P.behind.represents u h P.within c.in-Some.w c.in-Some.is, c.if-v-m.false))
 
-pub returns-else-tokens-q-eq1-clause-held : goal.returns-else-tokens-q-eq1-clause-held
-returns-else-tokens-q-eq1-clause-held c =
-    let t = c.shallow_resolve-q.ensures in
+pub returns-in_default-clause-held : goal.returns-in_default-clause-held
+returns-in_default-clause-held c =
     λ s u P.
-    deferred_none P.behind.ordered P.behind.represents u (t.term u s.solver.bindings P.held (behind_bindings P.behind)) c.if-tokens-q-eq1.false
+    let h = c.variable_of.ensures _ (c.shallow_resolve-end.ensures.term u s.solver.bindings P.held (behind_bindings P.behind)) in
+    deferred_none P.behind.ordered P.behind.represents u h c.in_default.is

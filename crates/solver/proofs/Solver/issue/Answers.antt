@@ -1,6 +1,6 @@
 -- `Solver::issue`. By what the search found, and whether one more may be issued.
 use mathlib.Core.Path.{refl, sym, ◌∙◌}
-use Prim.Native.Nat.{◌+◌, ◌*◌}
+use Prim.Native.Nat.{◌+◌}
 use native.Mathlib.Omega.{arith}
 use Rattle.solver.proofs.Laws.Table.MethodLaws.{beside_set, issued_found, issued_full, issued_new, found_number}
 use Rattle.solver.proofs.Solver.issue.Goals as goal

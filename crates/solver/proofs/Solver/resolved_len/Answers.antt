@@ -3,9 +3,11 @@ use mathlib.Core.Path.{◌≡◌, sym, ap, ◌∙◌}
 use Prim.Native.Nat.{min, ◌+◌}
 use Rattle.std.specs.Prelude.{unwrap_or}
 use lib.ListN.{length}
+use Rattle.std.proofs.Common.{rules}
 use Rattle.terms.specs.Term.{Term, bytes}
 use Rattle.solver.specs.Session.{Session}
 use Rattle.solver.specs.Words.OrderTerms.{Asked, resolved_to}
+use Rattle.solver.proofs.Laws.Resolving.StartLaws.{default_long}
 use Rattle.solver.proofs.Laws.Table.OrderTermLaws.{asked_areas, begins_at}
 use Rattle.solver.proofs.Solver.resolved_len.Goals.{After-resolved_len-size}
 use Rattle.solver.proofs.Solver.resolved_len.Goals as goal
@@ -23,3 +25,9 @@ returns-then-is_none-clause-len c = walked (goal.at.returns-then-is_none-clause-
 
 pub returns-else-is_none-clause-len : goal.returns-else-is_none-clause-len
 returns-else-is_none-clause-len c = walked (goal.at.returns-else-is_none-clause-len c).After-resolved_len-size
+
+pub returns-in-Default-clause-len : goal.returns-in-Default-clause-len
+returns-in-Default-clause-len c =
+    λ z t A.
+    let l : length (resolved_to z t) ≡ 2 = default_long c.args.self c.args.tokens.now.kinds.now c.args.tokens.now.vals.now z t (c.start-begun.ensures _ _ z t A) c.in-Default.is in
+    rw l (search rules)

@@ -3,8 +3,14 @@ use mathlib.Core.Path.{refl, ◌∙◌}
 use native.Mathlib.Omega.{arith}
 use Rattle.solver.proofs.Laws.Definition.NotionLaws.{notion_codes}
 use Rattle.solver.proofs.Laws.Checks.CheckContractLaws.{held_place}
-use Rattle.solver.proofs.Laws.Checks.PairLoopLaws.{agreed, table_of, going_start, loop_start, loop_room, loop_due, loop_scratch, loop_next, and-false, and-true, going_end, going_cancel}
+use Rattle.solver.proofs.Laws.Checks.PairLoopLaws.{agreed, table_of, start_room, going_start, loop_start, loop_room, loop_due, loop_scratch, loop_next, and-false, and-true, going_end, going_cancel}
 use Rattle.solver.proofs.Solver.solve_pair.Goals as goal
+
+pub put_pair-count-requires-clause-room : goal.put_pair-count-requires-clause-room
+put_pair-count-requires-clause-room c =
+    let h = c.requires.held in
+    let s = rw c.lasting_words.ensures at c.split_at_mut-table.ensures in
+    omega (arith, start_room h.4 h.5, c.requires.room.0.pairs, s.back_len)
 
 pub put_pair-count-requires-clause-small : goal.put_pair-count-requires-clause-small
 put_pair-count-requires-clause-small c =

@@ -1,41 +1,41 @@
 -- `unify_variable`.
 use mathlib.Core.Path.{sym, ◌∙◌}
-use Rattle.solver.proofs.Laws.Checks.CheckContractLaws.{facing_place, facing_bind, assign_recovers, assign_refused, assign_occurs, assign_bound}
+use Rattle.solver.proofs.Laws.Checks.CheckContractLaws.{facing_bind, assign_recovers, assign_refused, assign_occurs, assign_bound}
 use Rattle.solver.proofs.Solver.unify_variable.Goals.{then-not-admissible-via-then-not-admissible, then-not-admissible-via-else-not-admissible+then-occurs}
 use Rattle.solver.proofs.Solver.unify_variable.Goals as goal
 
 pub returns-then-recovers-clause-after : goal.returns-then-recovers-clause-after
 returns-then-recovers-clause-after c =
     λ s t x y ps st F W. rw c.checked.ensures (assign_recovers F W
-    (sym (c.recovers.ensures.term t s.solver.bindings s.solver.revision F.known.held F.represents.bindings F.steady) ∙ c.if-recovers.true))
+    (sym (c.recovers.ensures.term t s.solver.bindings s.solver.revision F.held F.represents.bindings F.steady) ∙ c.if-recovers.true))
 
 pub invariant_of-read : goal.invariant_of-read
 invariant_of-read c = record { columns = c.requires.faces.2.represents.room }
 
 pub admissible-requires : goal.admissible-requires
-admissible-requires c = facing_place c.requires.faces.2
+admissible-requires c = c.requires.faces.2.inside
 
 pub returns-then-not-admissible-clause-after : goal.returns-then-not-admissible-clause-after
 returns-then-not-admissible-clause-after c =
     λ s t x y ps st F W.
-    let r = sym (c.recovers.ensures.term t s.solver.bindings s.solver.revision F.known.held F.represents.bindings F.steady) ∙ c.if-recovers.false in
+    let r = sym (c.recovers.ensures.term t s.solver.bindings s.solver.revision F.held F.represents.bindings F.steady) ∙ c.if-recovers.false in
     rw c.checked-then-not-admissible.ensures (elim c.then-not-admissible.branch [
       | then-not-admissible-via-then-not-admissible w ↦
-          assign_refused F W r (sym (c.admissible.ensures t s.solver.requests F.represents.requests F.known.held) ∙ w.if-not-admissible.true)
+          assign_refused F W r (sym (c.admissible.ensures t s.solver.requests F.represents.requests F.held) ∙ w.if-not-admissible.true)
       | then-not-admissible-via-else-not-admissible+then-occurs w ↦
-          assign_occurs F W r (sym (w.occurs.ensures.term t s.solver.bindings s.solver.revision F.known.held F.represents.bindings F.steady F.free) ∙ w.if-occurs.true)
+          assign_occurs F W r (sym (w.occurs.ensures.term t s.solver.bindings s.solver.revision F.held F.represents.bindings F.steady F.free) ∙ w.if-occurs.true)
     ])
 
 pub bind-requires-clause-areas : goal.bind-requires-clause-areas
 bind-requires-clause-areas c =
     let f = facing_bind c.requires.faces.2 in
-    (f.0, f.1, f.3, f.4)
+    (f.0, f.1, f.2, f.3)
 
 pub returns-clause-after : goal.returns-clause-after
 returns-clause-after c =
     let b = c.bind.ensures in
     λ s t x y ps st F W. rw c.checked-2.ensures (assign_bound F W
-    (sym (c.recovers.ensures.term t s.solver.bindings s.solver.revision F.known.held F.represents.bindings F.steady) ∙ c.if-recovers.false)
-    (sym (c.admissible.ensures t s.solver.requests F.represents.requests F.known.held) ∙ c.if-not-admissible.false)
-    (sym (c.occurs.ensures.term t s.solver.bindings s.solver.revision F.known.held F.represents.bindings F.steady F.free) ∙ c.if-occurs.false)
-    (λ rs l e. b.held s t rs F.represents F.known.held l e) b.beside)
+    (sym (c.recovers.ensures.term t s.solver.bindings s.solver.revision F.held F.represents.bindings F.steady) ∙ c.if-recovers.false)
+    (sym (c.admissible.ensures t s.solver.requests F.represents.requests F.held) ∙ c.if-not-admissible.false)
+    (sym (c.occurs.ensures.term t s.solver.bindings s.solver.revision F.held F.represents.bindings F.steady F.free) ∙ c.if-occurs.false)
+    (λ rs l e. b.held s t rs F.represents F.held l e) b.beside)

@@ -11,6 +11,12 @@ offset_bounds-queue-done c = omega (arith, top_below _ _ _ _ c.loop-done.invaria
 pub bounds-queue-done : goal.bounds-queue-done
 bounds-queue-done c = omega (arith, top_below _ _ _ _ c.loop-done.invariant.1.wired, c.loop-done.invariant.1.wired.room)
 
+pub union_parts-requires-clause-places : goal.union_parts-requires-clause-places
+union_parts-requires-clause-places c =
+    let l = c.loop-done in
+    let t = taken_entry l.invariant.1.wired l.done (omega arith) in
+    (t.0, t.1)
+
 pub returns-then-not-union_parts : goal.returns-then-not-union_parts
 returns-then-not-union_parts c =
     let l = c.loop-done in
@@ -20,7 +26,7 @@ returns-then-not-union_parts c =
       advanced = advanced_on l.invariant.1 d.advanced;
       terms = λ b e fa.
           let g = l.invariant.2 b e fa in
-          going_no g l.invariant.1.wired d.advanced (omega arith) refl (omega (arith, t.1)) (λ k j ps qs hx hy. d.terms b k j ps qs e hx hy g.fair)
+          going_no g l.invariant.1.wired d.advanced (omega arith) refl t.2 (λ k j ps qs hx hy. d.terms b k j ps qs e hx hy g.fair)
           c.if-not-union_parts.true;
     }
 
@@ -39,7 +45,7 @@ loop-done-preserved c =
       advanced_on l.invariant.1 d.advanced,
       λ b e fa.
           let g = l.invariant.2 b e fa in
-          going_on g l.invariant.1.wired d.advanced (omega arith) refl (omega (arith, t.1)) (λ k j ps qs hx hy. d.terms b k j ps qs e hx hy g.fair)
+          going_on g l.invariant.1.wired d.advanced (omega arith) refl t.2 (λ k j ps qs hx hy. d.terms b k j ps qs e hx hy g.fair)
           c.if-not-union_parts.false,
     )
 

@@ -4,17 +4,22 @@ use Rattle.solver.proofs.Laws.Equality.EqualLaws.{united_one, Links, links}
 use Rattle.solver.proofs.equality.union_classes.Goals.{Then-low-high}
 use Rattle.solver.proofs.equality.union_classes.Goals as goal
 
-linked : (c : Then-low-high) → Links c.requires.wired c.requires.places.3 c.requires.places.4 c.find-x.ensures.2 c.find-y.ensures.2 c.min-low.result c.max-high.result
+linked : (c : Then-low-high) → Links c.requires.wired c.requires.places.2 c.requires.places.3 c.find-x.ensures.2 c.find-y.ensures.2 c.min-low.result c.max-high.result
 linked c =
     let f = c.find-x.ensures in
     let g = c.find-y.ensures in
-    links c.requires.wired c.requires.places.3 c.requires.places.4 f.2 g.2 f.0 f.1 g.0 g.1 _ _
+    links c.requires.wired c.requires.places.2 c.requires.places.3 f.2 g.2 f.0 f.1 g.0 g.1 _ _
     (λ h. (omega (arith, c.min-low.ensures), omega (arith, c.max-high.ensures))) (λ h. (omega (arith, c.min-low.ensures), omega (arith, c.max-high.ensures))) c.if-low-high.true
 
-pub link-requires : goal.link-requires
-link-requires c =
-    let k = linked (goal.at.link-requires c).Then-low-high in
-    (omega (arith, k.inside, c.requires.wired.size), c.if-low-high.true, omega (arith, k.inside, c.requires.places.2), k.room)
+pub link-requires-clause-room : goal.link-requires-clause-room
+link-requires-clause-room c =
+    let k = linked (goal.at.link-requires-clause-room c).Then-low-high in
+    (omega (arith, k.inside, c.requires.wired.size), k.room)
+
+pub link-requires-clause-root : goal.link-requires-clause-root
+link-requires-clause-root c =
+    let k = linked (goal.at.link-requires-clause-root c).Then-low-high in
+    (k.free, c.if-low-high.true, omega (arith, k.inside, c.requires.wired.small))
 
 pub returns-then-low-high : goal.returns-then-low-high
 returns-then-low-high c =
@@ -26,4 +31,4 @@ pub returns-else-low-high-clause-terms : goal.returns-else-low-high-clause-terms
 returns-else-low-high-clause-terms c =
     let f = c.find-x.ensures in
     let g = c.find-y.ensures in
-    united_one c.requires.wired c.requires.places.3 c.requires.places.4 f.2 g.2 (omega (arith, c.if-low-high.false, c.min-low.ensures, c.max-high.ensures))
+    united_one c.requires.wired c.requires.places.2 c.requires.places.3 f.2 g.2 (omega (arith, c.if-low-high.false, c.min-low.ensures, c.max-high.ensures))

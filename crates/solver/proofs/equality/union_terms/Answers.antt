@@ -1,24 +1,14 @@
--- `union_terms`. By the tops: each outcome is a law of `LinkLaws` (`told-..`), or `union_classes` tells it.
-use Rattle.solver.proofs.Laws.Equality.LinkLaws.{told_kinds, told_values}
+-- `union_terms`. Two nodes are their own tops.
+use native.Mathlib.Omega.{arith}
+use Rattle.solver.proofs.Laws.Resolving.TopLaws.{stands_alone}
 use Rattle.solver.proofs.Laws.Equality.EqualLaws.{steady_standing}
 use Rattle.solver.proofs.equality.union_terms.Goals as goal
 
-pub returns-then-tokens-a-clause-terms : goal.returns-then-tokens-a-clause-terms
-returns-then-tokens-a-clause-terms c =
-    let f = c.shallow_resolve-a.ensures in
-    let g = c.shallow_resolve-b.ensures in
-    λ b t u e ht hu fa.
-    told_kinds _ _ (steady_standing e.steady e.topped) _ _ _ fa t u _ _ (f.term t b ht e.held) (g.term u b hu e.held) c.if-tokens-a.true
-
-pub returns-then-tokens-a-lt2-clause-terms : goal.returns-then-tokens-a-lt2-clause-terms
-returns-then-tokens-a-lt2-clause-terms c =
-    let f = c.shallow_resolve-a.ensures in
-    let g = c.shallow_resolve-b.ensures in
-    λ b t u e ht hu fa.
-    told_values _ _ (steady_standing e.steady e.topped) _ _ _ fa t u _ _ (f.term t b ht e.held) (g.term u b hu e.held) c.if-tokens-a-lt2.true c.if-tokens-a.false
-
 pub returns-clause-terms : goal.returns-clause-terms
 returns-clause-terms c =
-    let f = c.shallow_resolve-a.ensures in
-    let g = c.shallow_resolve-b.ensures in
-    λ b t u e ht hu fa. c.union_classes.ensures.terms _ _ _ t u (steady_standing e.steady e.topped) (f.term t b ht e.held) (g.term u b hu e.held) fa
+    let a = c.args in
+    let n = a.bindings.now.most in
+    λ b t u e ht hu fa.
+    c.union_classes.ensures.terms _ _ _ t u (steady_standing e.steady e.topped)
+    (rw (stands_alone _ _ a.i n b t ht (λ q. omega (arith, q, c.if-kinds-i-lt2.false))) ht)
+    (rw (stands_alone _ _ a.j n b u hu (λ q. omega (arith, q, c.if-kinds-i-lt2.false, c.if-kinds-i.false))) hu) fa

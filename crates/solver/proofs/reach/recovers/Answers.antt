@@ -1,10 +1,19 @@
--- `recovers`.
-use mathlib.Core.Path.{◌∙◌}
+-- `recovers`. By whether the end is a place.
+use mathlib.Core.Path.{subst, ◌∙◌}
+use Rattle.solver.specs.declared.ChainEnd.{ChainEnd}
 use Rattle.solver.specs.Constrain.{resolve}
-use Rattle.solver.proofs.Laws.Resolving.ReachLaws.{asks_recovery}
+use Rattle.solver.specs.Words.ChainEnds.{HeldEnd}
+use Rattle.solver.proofs.Laws.Resolving.ReachLaws.{asks_recovery, builtin_whole}
 use Rattle.solver.proofs.reach.recovers.Goals as goal
 
-pub returns-clause-term : goal.returns-clause-term
-returns-clause-term c =
-    let m = c.reaches.ensures in
-    λ t b n h g S. m.term t b n h g S tt ∙ asks_recovery (resolve n b t)
+pub returns-in-At-clause-term : goal.returns-in-At-clause-term
+returns-in-At-clause-term c =
+    let x = c.args.tokens.now in
+    λ t b n h g S.
+    c.reaches.ensures.term t b n (subst (λ (e : ChainEnd). HeldEnd x.kinds.now x.vals.now t e) c.in-At.is h) g S tt ∙ asks_recovery (resolve n b t)
+
+pub returns-in-Default-clause-term : goal.returns-in-Default-clause-term
+returns-in-Default-clause-term c =
+    let x = c.args.tokens.now in
+    λ t b n h g S.
+    builtin_whole n b c.in-Default.field-0.code (subst (λ (e : ChainEnd). HeldEnd x.kinds.now x.vals.now t e) c.in-Default.is h).1

@@ -4,17 +4,17 @@ use native.Mathlib.Omega.{arith}
 use lib.ListN.{get_or, get_or-eq_default}
 use Rattle.solver.specs.Words.ResolveWalk.{run_len}
 use Rattle.solver.proofs.Laws.Resolving.FrameLaws.{run_none, inner_var, inner_other}
-use Rattle.solver.proofs.resolving.enter.Goals.{then-left-eq0-via-then-left-eq0, then-left-eq0-via-else-left-eq0+then-tokens-p-ne1}
+use Rattle.solver.proofs.resolving.enter.Goals.{then-tokens-p-ne1-via-then-tokens-p-ne1, then-tokens-p-ne1-via-else-tokens-p-ne1+then-left-eq0}
 use Rattle.solver.proofs.resolving.enter.Goals as goal
 
-pub returns-then-left-eq0-clause-entered : goal.returns-then-left-eq0-clause-entered
-returns-then-left-eq0-clause-entered c =
+pub returns-then-tokens-p-ne1-clause-entered : goal.returns-then-tokens-p-ne1-clause-entered
+returns-then-tokens-p-ne1-clause-entered c =
     let a = c.args in
     record {
       shut = λ _. refl;
-      size = λ h. elim c.then-left-eq0.branch [
-        | then-left-eq0-via-then-left-eq0 w ↦ absurd (omega (arith, h, w.if-left-eq0.true))
-        | then-left-eq0-via-else-left-eq0+then-tokens-p-ne1 w ↦ sym (inner_other a.tokens.now.kinds.now a.tokens.now.vals.now a.bound.now (get_or a.tokens.now.kinds.now a.p 0) (get_or a.tokens.now.vals.now a.p 0) w.if-tokens-p-ne1.true)
+      size = λ h. elim c.then-tokens-p-ne1.branch [
+        | then-tokens-p-ne1-via-else-tokens-p-ne1+then-left-eq0 w ↦ absurd (omega (arith, h, w.if-left-eq0.true))
+        | then-tokens-p-ne1-via-then-tokens-p-ne1 w ↦ sym (inner_other a.tokens.now.kinds.now a.tokens.now.vals.now a.bound.now (get_or a.tokens.now.kinds.now a.p 0) (get_or a.tokens.now.vals.now a.p 0) w.if-tokens-p-ne1.true)
       ];
       place = omega arith;
       within = omega arith;

@@ -1,20 +1,21 @@
 use mathlib.Core.List.{List}
 use mathlib.Core.Path.{ap, ◌∙◌}
 use native.Mathlib.Omega.{arith}
-use lib.ListN.{length, get_or}
+use lib.ListN.{length}
 use Rattle.terms.specs.Words.Tokens.{Item}
 use Rattle.terms.specs.Words.TokenBytes.{plain}
 use Rattle.terms.proofs.Laws.Format.WriteLaws.{advance, written}
 use Rattle.solver.specs.Words.ResolveWalk.{flat_bytes}
-use Rattle.solver.proofs.Laws.Resolving.OverLaws.{over_cons, over_none, over_length}
-use Rattle.solver.proofs.Laws.Resolving.FrameLaws.{left_start, turn}
+use Rattle.solver.specs.Words.Lent.{standing_bytes}
+use Rattle.solver.proofs.Laws.Resolving.OverLaws.{over_none}
+use Rattle.solver.proofs.Laws.Resolving.FrameLaws.{left_start, turn, turn_bytes, turn_length}
 use Rattle.solver.proofs.resolving.write_walked.Goals as goal
 
-pub write_token-i-requires : goal.write_token-i-requires
-write_token-i-requires c =
+pub write_standing-i-requires-clause-room : goal.write_standing-i-requires-clause-room
+write_standing-i-requires-clause-room c =
     let a = c.args in
     let l = c.loop-c in
-    let e = over_length plain _ _ _ _ (l.invariant.0.head (omega arith)) in
+    let e = turn_length _ _ _ _ _ _ _ _ (l.invariant.0.head (omega arith)) in
     let w = ap (λ (m : List Item). length (flat_bytes m)) (left_start _ _ _ _ _ a.run.at a.run.len _ _ c.begin-c.ensures) in
     omega (arith, e, w, l.invariant.1.place, l.invariant.1.long, c.requires.room)
 
@@ -23,9 +24,9 @@ loop-c-preserved c =
     let a = c.args in
     let l = c.loop-c in
     let s = c.next-c in
-    let w = c.write_token-i.ensures in (
+    let w = c.write_standing-i.ensures in (
       s.ensures.ready,
-      advance _ _ _ _ _ _ (plain (get_or a.bindings.now.tokens.kinds.now l.c.at 0) (get_or a.bindings.now.tokens.vals.now l.c.at 0)) _ _ _ l.invariant.1 (over_cons plain _ _ _ _ (turn _ _ _ _ _ _ _ _ l.invariant.0 (omega arith) s.ensures)) w.next w.wrote,
+      advance _ _ _ _ _ _ (standing_bytes a.bindings.now l.c) _ _ _ l.invariant.1 (turn_bytes _ _ _ _ _ _ _ _ (turn _ _ _ _ _ _ _ _ l.invariant.0 (omega arith) s.ensures)) w.next w.wrote,
       c.next-c.auto.frames ∙ l.invariant.2,
       (λ j h. s.ensures.apart j h ∙ l.invariant.3 j h),
       λ b. s.ensures.bare (l.invariant.4 b),

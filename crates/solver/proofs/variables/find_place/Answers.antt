@@ -2,7 +2,7 @@ use borrow.Author.Tests.{eq-eqb}
 use Rattle.terms.proofs.Laws.General.Bools.{never_true}
 use lib.Seq.{get_or-take, get_or-drop, length-take-le}
 use mathlib.Core.Path.{◌≡◌, refl, sym, ap, ◌∙◌}
-use Prim.Native.Nat.{ℕ, ◌+◌, ◌*◌, ◌-◌, ◌<◌}
+use Prim.Native.Nat.{ℕ, ◌+◌, ◌-◌, ◌<◌}
 use lib.ListN.{get_or, drop, length-drop}
 use native.Mathlib.Omega.{arith}
 use Rattle.std.specs.declared.option.Option as rust
