@@ -56,9 +56,24 @@ def free(count):
 
 
 def alias(count):
-    """Each variable is bound to the next one, from the last to the first, and then the first to a type."""
+    """From the last to the first, each variable is posed against the next one, whose chain is followed: all are bound to the last. Then the first to a type."""
     return variables(count) + [pair(inf(n), inf(n + 1)) for n in range(count - 2, -1, -1)] + [pair(inf(0), I32)]
 
 
+def rising(count):
+    """Each variable is bound to the next one, from the first to the last, so that each binding moves the ends of all before it; then the first to a type."""
+    return variables(count) + [pair(inf(n), inf(n + 1)) for n in range(count - 1)] + [pair(inf(0), I32)]
+
+
+def star(count):
+    """Each variable is bound to the last one, and then the first to a type, which moves the ends of all."""
+    return variables(count) + [pair(inf(n), inf(count - 1)) for n in range(count - 1)] + [pair(inf(0), I32)]
+
+
+def met_again(count, times):
+    """The first variable of a chain of aliases that ends at a type is posed against the last one, again and again."""
+    return rising(count) + [pair(inf(0), inf(count - 1))] * times
+
+
 SHAPES = (("two equal chains", equal), ("two chains, unequal at the leaf, 100,000 checks", unequal), ("a chain that ends in itself", cyclic),
-          ("a chain bound whole", free), ("aliases", alias))
+          ("a chain bound whole", free), ("aliases, falling", alias), ("aliases, rising", rising), ("aliases in a star", star))

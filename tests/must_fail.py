@@ -14,10 +14,11 @@ crate. Its lines:
   fact: PLACE NAME: TEXT    where it is refused; there may be several
   shows: TEXT               what the message at the fact above it has; there may be several
   file: src/numbers.rt      old and new, one or more times, as rt must-fail has them
+  after: TEXT               a text that is in the file once, where the old text is meant that comes first after it
   old: TEXT
   new: TEXT
 
-An old text must be in its file exactly once. PLACE is a file under proofs, or specs/FILE, without Proof, a folder +..+ and the ending; NAME is
+An old text without one must be in its file exactly once. PLACE is a file under proofs, or specs/FILE, without Proof, a folder +..+ and the ending; NAME is
 the declaration in it. The edit counts as refused if the check ends with logic=not-proved and has, at each fact, an error that says that
 something does not hold (FAILS below). An error of form (a name that is missing, a case too many, something that was not admitted) does not count,
 and an edit of the code is to leave the needs of each proof, and so the code's shape, as they are. The edits tool_.. test this command itself:
@@ -66,7 +67,7 @@ NEEDS = re.compile(r"_spec: |has no field `|has no `Need-|Goals` has no `")     
 ERROR = re.compile(r"^(\./\S.*?\.antt):\d+:\d+: error: (?:`([^`]+)`: )?(.*)$")
 UNPROVED = re.compile(r"^fn \S+: no proof: expected answers in (\S+\.antt); `search` did not prove ([^;]*)")
 
-Change = collections.namedtuple("Change", "file old new")
+Change = collections.namedtuple("Change", "file old new after")
 Fact = collections.namedtuple("Fact", "place name words shows")
 Checked = collections.namedtuple("Checked", "status text seconds megabytes")
 
@@ -87,7 +88,7 @@ class Edit:
         self.read()
 
     def read(self):
-        file = old = None
+        file = old = after = None
         with open(self.path, encoding="utf-8") as lines:
             for line in lines.read().splitlines():
                 word, _, text = line.partition(": ") if line != "new:" else ("new", "", "")
@@ -99,11 +100,13 @@ class Edit:
                     self.facts[-1].shows.append(text)
                 elif word == "file":
                     file = text
+                elif word == "after" and file:
+                    after = text
                 elif word == "old" and file:
                     old = text
                 elif word == "new" and old:
-                    self.changes.append(Change(file, old, text))
-                    old = None
+                    self.changes.append(Change(file, old, text, after))
+                    old = after = None
                 else:
                     raise Bad("a line that is not understood: %s" % line)
 
@@ -123,14 +126,17 @@ class Edit:
     def applied(self, directory, others=()):
         """The files of the crate in that directory with the edit in them, over what others have made of them: {path: text}."""
         texts = dict(others)
-        for file, old, new in self.changes:
+        for file, old, new, after in self.changes:
             path = os.path.join(directory, "crates", self.crate, file)
             if not os.path.isfile(path):
                 raise Bad("there is no file %s" % file)
             text = texts.get(path) or read_text(path)
-            if text.count(old) != 1:
-                raise Bad("its old text is in %s %d times, and must be there once: %s" % (file, text.count(old), old.strip()))
-            texts[path] = text.replace(old, new)
+            if text.count(after or old) != 1:
+                raise Bad("its text is in %s %d times, and must be there once: %s" % (file, text.count(after or old), (after or old).strip()))
+            at = text.find(old, text.index(after) if after else 0)
+            if at < 0:
+                raise Bad("its old text is not in %s after %s" % (file, after))
+            texts[path] = text[:at] + new + text[at + len(old):]
         return texts
 
 

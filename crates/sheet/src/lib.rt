@@ -17,8 +17,11 @@ mod splitting;
 mod starting;
 mod term_orders;
 
+pub use dispatch::serve_order;
 pub use running::run_sheet;
 use solver::{Access, Defaulted, NumberRequest, Refusal, Site, Solver, Tokens, refusal_number};
+pub use splitting::Orders;
+pub use starting::lay_fresh;
 
 // Which order it is, by what answers it; `try_from` of order_table.rt has the numbers. Orders 9 to 20 are operations, which leave the session as it was.
 #[derive(Clone, Copy, Debug, PartialEq, Eq)]

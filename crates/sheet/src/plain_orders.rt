@@ -132,8 +132,8 @@ fn answer_variable(
 
 // The variable is issued, where the place has none; a number variable is requested.
 fn issue_variable(x: Solver, tables: &mut [u32], wanted: VariableOrder) -> Solver
-    requires { (ks vs : List ℕ) × (z : Session) × Represents x ks vs tables.old z }
-    ensures held { (ks vs : List ℕ) (z : Session) → Represents x ks vs tables.old z
+    requires { (ks vs : List ℕ) × (z : Session) × InOrder (issued z) z.solver × Represents x ks vs tables.old z }
+    ensures held { (ks vs : List ℕ) (z : Session) → InOrder (issued z) z.solver → Represents x ks vs tables.old z
         → Represents result ks vs tables.new (solve (limits_of x) z (variable_command wanted)).session }
     ensures beside { Beside x result tables.old tables.new }
 {
@@ -163,11 +163,11 @@ fn variable_order(
     out: &mut [u8],
     to: usize,
 ) -> AfterOrder
-    requires held { (z : Session) × Represents x tokens.now.kinds.now tokens.now.vals.now tables.old z }
+    requires held { (z : Session) × InOrder (issued z) z.solver × Represents x tokens.now.kinds.now tokens.now.vals.now tables.old z }
     requires areas { Frames x frames.old }
     requires room { OutputRoom out.old to }
     ensures clear { Zero frames.new }
-    ensures does { (z : Session) → Represents x tokens.now.kinds.now tokens.now.vals.now tables.old z
+    ensures does { (z : Session) → InOrder (issued z) z.solver → Represents x tokens.now.kinds.now tokens.now.vals.now tables.old z
         → Does (lent x tokens.now.kinds.now tokens.now.vals.now tables.old) result.solver tables.new z
         (solve (limits_of x) z (variable_command wanted)) (output_at out.old to) (written_to out.new result.next) }
 {

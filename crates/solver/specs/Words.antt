@@ -3,10 +3,13 @@
 -- serves. No promise rests on these.
 --   Bindings               bindings that the areas and a table hold
 --   ChainEnds              the end of a chain as a value of the code
+--   ChainRecord            what the table keeps of each chain
+--   ChainWords             that record as words, changed in a pass
 --   CongruenceClasses      classes of token places
 --   ConstrainContract      one check of `constrain` on what is lent
 --   Halves                 words as halves
 --   Lent                   what lent bindings say
+--   Masks                  bits of a mask
 --   MethodContract         what the methods say of the counters and the table
 --   OrderTerms             terms that follow the tokens of a session; what is resolved
 --   PendingContract        pending pairs as words, places of children, rows in step
@@ -19,10 +22,13 @@
 --   Worklist               marks, and a queue of what is marked
 pub mod Bindings
 pub mod ChainEnds
+pub mod ChainRecord
+pub mod ChainWords
 pub mod CongruenceClasses
 pub mod ConstrainContract
 pub mod Halves
 pub mod Lent
+pub mod Masks
 pub mod MethodContract
 pub mod OrderTerms
 pub mod PendingContract

@@ -6,9 +6,11 @@ ghost use Rattle.terms.specs.Term.{Term, var, bytes};
 ghost use Rattle.solver.specs.Session.{Session};
 ghost use Rattle.solver.specs.Orders as orders;
 ghost use Rattle.solver.specs.Words.Worklist.{Zero};
-ghost use Rattle.solver.specs.Words.SessionRepresentation.{limits_of, binding_words, Represents};
+ghost use Rattle.solver.specs.Words.TableLayout.{lasting_words};
+ghost use Rattle.solver.specs.Words.SessionRepresentation.{limits_of, binding_words, end_words, Represents};
 ghost use Rattle.solver.specs.Words.OrderTerms.{Asked, Starts, Frames, resolved_to};
 
+use super::layout::ENDS;
 use super::resolving::{clear_words, default_of, resolved_len, write_builtin, write_resolved};
 use super::{Bindings, Solver, Start, Subject};
 use terms::{Refusal, Token, Tokens, token_len, write_token};
@@ -49,6 +51,19 @@ impl Solver {
             tokens,
             bound: &table[..self.variables],
             most,
+        }
+    }
+
+    // The ends of chains in the place of the bindings: what `same_terms` asks for.
+    pub fn chains<'a>(self, tokens: Tokens<'a>, table: &'a [u32]) -> Bindings<'a>
+        requires { (lasting_words self.variables ≤ length table.now) × (length tokens.kinds.now < 2 ^ 32) }
+        ensures { (result.tokens ≡ tokens.entry) × (result.bound.now ≡ end_words self.variables table.now) × (result.most ≡ self.revision) }
+    {
+        let at = ENDS * self.variables;
+        Bindings {
+            tokens,
+            bound: &table[at..at + self.variables],
+            most: self.revision,
         }
     }
 

@@ -248,12 +248,12 @@ impl Solver {
             (solving.top s.solver u) count (solving.check_pair (notion (strict_of access)) s.solver t u ps) result }
         ensures clear { Zero work.new }
     {
-        let bindings = self.bindings(*tokens, table, self.revision);
-        if same_terms(&bindings, pair.left, pair.right, work) {
+        let chains = self.chains(*tokens, table);
+        if same_terms(&chains, pair.left, pair.right, work) {
             return self.checked(true, count);
         }
-        let a = shallow_resolve(tokens, bindings.bound, bindings.most, pair.left);
-        let b = shallow_resolve(tokens, bindings.bound, bindings.most, pair.right);
+        let a = shallow_resolve(tokens, chains.bound, pair.left);
+        let b = shallow_resolve(tokens, chains.bound, pair.right);
         if let Some(v) = variable_of(tokens, a) {
             return self.unify_end(tokens, table, work, v, b, count);
         }

@@ -1,48 +1,25 @@
 // Orders 3, 6 and 7: deferrals and defaults.
-ghost use Rattle.std.specs.Prelude.{Some, unwrap_or, ◌≡◌, ℕ, ◌+◌, ◌*◌, ◌^◌, ◌≤◌, ◌<◌, length, take};
-ghost use Rattle.std.specs.Int.NonZero.{non_zero_u32_get};
+ghost use Rattle.std.specs.Prelude.{Some, ◌≡◌, List, ℕ, ◌+◌, ◌^◌, ◌≤◌, ◌<◌, length, take};
 ghost use Rattle.std.proofs.Math.Option.{Option};
+ghost use Rattle.std.specs.Int.NonZero.{non_zero_u32_get};
 ghost use Rattle.terms.specs.Term.{Term, var};
 ghost use Rattle.solver.specs.Families.{Family, admits, Request, preference, first_of, taken};
-ghost use Rattle.solver.specs.Constrain.{follow, resolved};
-ghost use Rattle.solver.specs.Session.{Session, with_solver, deferring};
+ghost use Rattle.solver.specs.Constrain.{resolved, top};
+ghost use Rattle.solver.specs.Invariant.{InOrder};
+ghost use Rattle.solver.specs.Session.{Session, issued, with_solver, deferring};
 ghost use Rattle.solver.specs.Orders as orders;
-ghost use Rattle.solver.specs.Words.Bindings.{HeldBindings};
+ghost use Rattle.solver.specs.Words.ChainEnds.{variable_in};
+ghost use Rattle.solver.specs.Words.ChainRecord.{Coming};
 ghost use Rattle.solver.specs.Words.SessionRepresentation.{limits_of, bit, RequestWord, request_in, HeldRequest, Represents};
 ghost use Rattle.solver.specs.Words.OrderTerms.{Poses};
-ghost use Rattle.solver.specs.Words.MethodContract.{Shaped, Beside, Low, EndsAt, word_of, default_word, end_word, default_at, defaults_by};
+ghost use Rattle.solver.specs.Words.MethodContract.{Shaped, Beside, word_of, default_word, end_word, default_at, defaults_by};
 
 use super::families::{family_mask, has};
-use super::layout::DEFERRALS;
-use super::resolving::{default_of, named_run};
+use super::layout::{DEFERRALS, TAILS};
 use super::top::{shallow_resolve, variable_of};
 use super::{Builtin, ChainEnd, Defaulted, Solver, Table};
 use std::num::NonZeroU32;
 use terms::Tokens;
-
-// The variable at the end of the chain of bindings from v on; none where the chain ends at no variable of the table. The bindings are lent in three:
-// what `apply_defaults` asks for does not say that the tokens are fewer than 2 ^ 32, as a `Bindings` does.
-pub fn root_of(tokens: &Tokens, bound: &[u32], most: usize, v: usize) -> Option<usize>
-    requires { v < length bound.now }
-    ensures ends { (b : ℕ → Option Term)
-        → HeldBindings tokens.now.kinds.now tokens.now.vals.now bound.now b
-        → EndsAt (length bound.now) (follow most b (var v)) (unwrap_or result (length bound.now)) }
-    ensures low { (w : ℕ) → result ≡ Some w → w < length bound.now }
-{
-    if most == 0 {
-        return Some(v);
-    }
-    let word = bound[v];
-    if default_of(word).is_some() {
-        return None;
-    }
-    let Some(run) = named_run(tokens, word as usize) else {
-        return Some(v);
-    };
-    let end = shallow_resolve(tokens, bound, most - 1, run.at);
-    let w = variable_of(tokens, end)? as usize;
-    (w < bound.len()).then_some(w)
-}
 
 impl Table<'_> {
     // The word that the default of the variable v goes by: its request's, or that of Never, its code and 1, if v is deferred.
@@ -106,6 +83,23 @@ fn default_builtin(own: NonZeroU32, last: Option<NonZeroU32>) -> Builtin
 }
 
 impl Solver {
+    // The variable at the end of the chain of the issued variable v, by its tail; none where the chain ends at a node.
+    fn root_of(self, tables: &[u32], v: usize) -> Option<u32>
+        requires { Shaped self (length tables.now) × (v < self.issued) }
+        ensures told { (ks vs : List ℕ) (s : Session)
+            → Coming (issued s) s.solver
+            → Represents self ks vs tables.now s
+            → result ≡ variable_in (top s.solver (var v)) }
+        ensures low { (w : ℕ) → result ≡ Some w → w < self.issued }
+    {
+        let named = tables[TAILS * self.variables + v] % 65536;
+        let w = named.checked_sub(1)?;
+        if self.issued <= w as usize {
+            return None;
+        }
+        Some(w)
+    }
+
     // Order 3: the variable that the term after the session's tokens stands for, if it stands for one, is deferred.
     pub fn defer_never(self, tokens: &Tokens, tables: &mut [u32]) -> Solver
         requires { (s : Session) × (t : Term) × Poses self tokens.now.kinds.now tokens.now.vals.now tables.old s t }
@@ -116,8 +110,8 @@ impl Solver {
         ensures beside { Beside self result tables.old tables.new }
     {
         let m = self.variables;
-        let most = self.revision;
-        let end = shallow_resolve(tokens, &tables[..m], most, self.top);
+        let chains = self.chains(*tokens, tables);
+        let end = shallow_resolve(tokens, chains.bound, self.top);
         if let Some(w) = variable_of(tokens, end) {
             let v = w as usize;
             if v < m {
@@ -129,17 +123,17 @@ impl Solver {
 
     // The default of the variable v: the variable that it leads to, if it leads to one, is bound to a builtin.
     pub fn bind_default(
-        mut self,
+        self,
         tokens: &Tokens,
         tables: &mut [u32],
         v: usize,
         which: Defaulted,
     ) -> Solver
-        requires shape { Shaped self (length tables.old) }
-        requires areas { (v < self.variables) × (self.revision < 2 ^ 33) }
+        requires shape { Shaped self (length tables.old) × (v < self.issued) }
+        requires areas { self.revision < 2 ^ 33 }
         ensures held { (s : Session)
             → Represents self tokens.now.kinds.now tokens.now.vals.now tables.old s
-            → Low self.variables s.solver.bindings
+            → Coming (issued s) s.solver
             → Represents result tokens.now.kinds.now tokens.now.vals.now tables.new (with_solver s (default_at which s v)) }
         ensures steps { (result.revision ≤ self.revision + 1) × (result.issued ≡ self.issued) }
         ensures beside { Beside self result tables.old tables.new }
@@ -151,14 +145,11 @@ impl Solver {
         let Some(word) = table.default_word(v, which) else {
             return self;
         };
-        let most = self.revision;
-        let Some(w) = root_of(tokens, &table.words[..self.variables], most, v) else {
+        let Some(w) = self.root_of(table.words, v) else {
             return self;
         };
-        let taken = default_builtin(word, table.end_word(w, which));
-        tables[w] = ChainEnd::Default(taken).word();
-        self.revision = most + 1;
-        self
+        let taken = default_builtin(word, table.end_word(w as usize, which));
+        self.put_binding(tokens, tables, w, ChainEnd::Default(taken))
     }
 
     // Orders 6 and 7: each issued variable, by rising id, takes its default: by its request, or by its deferral, which is Never.
@@ -167,7 +158,7 @@ impl Solver {
         requires areas { self.revision < 2 ^ 32 }
         ensures held { (s : Session)
             → Represents self tokens.now.kinds.now tokens.now.vals.now tables.old s
-            → Low self.variables s.solver.bindings
+            → InOrder (issued s) s.solver
             → Represents result tokens.now.kinds.now tokens.now.vals.now tables.new (orders.order (limits_of self) s (defaults_by which)).session }
         ensures beside { Beside self result tables.old tables.new }
     {

@@ -2,16 +2,18 @@
 // words of requests and bits of masks are made of: an enum of all 32 would be made of a code and unmade again at each test.
 ghost use Rattle.std.specs.Prelude.{◌≡◌, false, ℕ, ◌+◌, ◌*◌, ◌^◌, ◌≤◌, ◌<◌, length, get_or};
 ghost use Rattle.std.specs.Int.NonZero.{non_zero_u32_get};
-ghost use Rattle.std.proofs.Math.Option.{some};
+ghost use Rattle.std.proofs.Math.Option.{none, some};
 ghost use Rattle.terms.specs.Term.{Term, Held};
 ghost use Rattle.solver.specs.Families.{belongs};
 ghost use Rattle.solver.specs.Constrain.{Requests, admit};
-ghost use Rattle.solver.specs.Session.{Session, with_solver};
+ghost use Rattle.solver.specs.Session.{Session, issued, with_solver};
 ghost use Rattle.solver.specs.Words.ChainEnds.{HeldEnd, Inside};
 ghost use Rattle.solver.specs.Words.SessionRepresentation.{request_words, bit, RequestWord, request_in, HeldRequest, Represents};
-ghost use Rattle.solver.specs.Words.MethodContract.{Shaped, Beside, is_some, bound_to, at_most, word_of, mask_in, joined_word, Handed};
-ghost use Rattle.solver.specs.Words.TableLayout.{lasting_words};
+ghost use Rattle.solver.specs.Words.MethodContract.{Shaped, Beside, is_some, bound_to, requesting, word_of, mask_in, joined_word};
+ghost use Rattle.solver.specs.Words.ChainRecord.{Coming, Last};
+ghost use Rattle.solver.specs.Words.ConstrainContract.{Within};
 
+use super::top::variable_of;
 use super::{ChainEnd, Solver, Table};
 use std::num::NonZeroU32;
 use terms::Tokens;
@@ -104,46 +106,54 @@ fn joined_word(word: NonZeroU32, other: Option<NonZeroU32>) -> u32
     33 + (word - 1) % 32 + 32 * (family_mask(word) & family_mask(last))
 }
 
-// The request of v is joined to that of the variable of a token, if v has one and the token is a variable of the table.
-pub fn propagate_request(tables: &mut [u32], m: usize, v: usize, kind: u32, val: u32)
-    requires { (v < m) × (lasting_words m ≤ length tables.old) }
-    ensures { Handed m v kind val tables.old tables.new }
-{
-    let Some(word) = NonZeroU32::new(tables[m + v]) else {
-        return;
-    };
-    if kind != 1 {
-        return;
-    }
-    let w = val as usize;
-    if m <= w {
-        return;
-    }
-    tables[m + w] = joined_word(word, NonZeroU32::new(tables[m + w]));
-}
-
 impl Solver {
-    // Binds the unbound variable v to the end q, which is admissible: its request is joined to that of the variable that it is bound to.
-    pub fn bind(mut self, tokens: &Tokens, tables: &mut [u32], v: u32, q: ChainEnd) -> Solver
-        requires shape { Shaped self (length tables.old) }
-        requires areas { (v < self.variables) × Inside (length tokens.now.kinds.now) q × (length tokens.now.kinds.now < 2 ^ 32)
-            × (self.revision < 2 ^ 33) }
+    // The request of v is joined to that of the variable that the end q is, if v has one and q is an issued variable. It is taken into `bind`, and that into
+    // those who bind: the comment at `put_binding` says why.
+    #[inline(always)]
+    fn hand_request(self, tokens: &Tokens, tables: &mut [u32], v: u32, q: ChainEnd)
+        requires { Shaped self (length tables.old) × (v < self.issued) × Inside (length tokens.now.kinds.now) q }
         ensures held { (s : Session) (t : Term) (rs : Requests)
             → Represents self tokens.now.kinds.now tokens.now.vals.now tables.old s
+            → Coming (issued s) s.solver
             → HeldEnd tokens.now.kinds.now tokens.now.vals.now t q
-            → at_most self.variables t
+            → Within (issued s) t
+            → admit s.solver.requests (s.solver.requests v) t ≡ some rs
+            → Represents self tokens.now.kinds.now tokens.now.vals.now tables.new (with_solver s (requesting s.solver rs)) }
+        ensures beside { Beside self self tables.old tables.new }
+    {
+        let m = self.variables;
+        let Some(word) = NonZeroU32::new(tables[m + v as usize]) else {
+            return;
+        };
+        let Some(w) = variable_of(tokens, q) else {
+            return;
+        };
+        let at = w as usize;
+        if self.issued <= at {
+            return;
+        }
+        let joined = joined_word(word, NonZeroU32::new(tables[m + at]));
+        self.put_request(tables, w, joined);
+    }
+
+    // Binds the free variable v to the end q, which is admissible: its request is joined to that of the variable that it is bound to.
+    #[inline(always)]
+    pub fn bind(self, tokens: &Tokens, tables: &mut [u32], v: u32, q: ChainEnd) -> Solver
+        requires shape { Shaped self (length tables.old) × (v < self.issued) }
+        requires areas { Inside (length tokens.now.kinds.now) q × (length tokens.now.kinds.now < 2 ^ 32) × (self.revision < 2 ^ 33) }
+        ensures held { (s : Session) (t : Term) (rs : Requests)
+            → Represents self tokens.now.kinds.now tokens.now.vals.now tables.old s
+            → Coming (issued s) s.solver
+            → s.solver.bindings v ≡ none
+            → HeldEnd tokens.now.kinds.now tokens.now.vals.now t q
+            → Last s.solver.bindings v t
+            → Within (issued s) t
             → admit s.solver.requests (s.solver.requests v) t ≡ some rs
             → Represents result tokens.now.kinds.now tokens.now.vals.now tables.new (with_solver s (bound_to s.solver v t rs)) }
         ensures counts { (result.revision ≡ self.revision + 1) × (result.issued ≡ self.issued) × (result.kept ≡ self.kept) }
         ensures beside { Beside self result tables.old tables.new }
     {
-        let m = self.variables;
-        let at = v as usize;
-        if let ChainEnd::At(p) = q {
-            propagate_request(tables, m, at, tokens.kinds[p], tokens.vals[p]);
-        }
-        tables[at] = q.word();
-        self.revision += 1;
-        self
+        self.hand_request(tokens, tables, v, q);
+        self.put_binding(tokens, tables, v, q)
     }
 }

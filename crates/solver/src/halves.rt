@@ -2,16 +2,14 @@
 ghost use Rattle.std.specs.Prelude.{◌≡◌, ◌<◌, length, get_or, set};
 ghost use Rattle.solver.specs.Words.Halves.{halves};
 
-// The half at i.
+// The half at i, by one shift.
 pub fn half_at(words: &[u32], i: usize) -> usize
     requires { i < length (halves words.now) }
     ensures { result ≡ get_or (halves words.now) i 0 }
 {
-    let word = words[i / 2] as usize;
-    if i % 2 == 0 {
-        return word % 65536;
-    }
-    word / 65536
+    let word = words[i / 2];
+    let moved = word >> (16 * (i % 2) as u32);
+    (moved % 65536) as usize
 }
 
 // Sets the half at i, which is 0, to x, which is below 65,536. The other half of the word stays, since a sum does.

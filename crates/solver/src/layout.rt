@@ -11,8 +11,12 @@ pub const SLOTS: usize = 4;
 
 pub const DEFERRALS: usize = 5;
 
+pub const ENDS: usize = 6;
+
+pub const TAILS: usize = 7;
+
 // How many columns are in use; the words of the others, and those of steps and labels, are 0.
-pub const USED_COLUMNS: usize = 6;
+pub const USED_COLUMNS: usize = 8;
 
 // How many columns there are.
 const COLUMNS: usize = 10;

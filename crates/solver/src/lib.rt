@@ -6,6 +6,7 @@ ghost use Rattle.solver.specs.Words.SessionRepresentation.{RequestWord};
 ghost use Rattle.solver.specs.Words.TableLayout.{lasting_words};
 
 mod answers;
+mod chains;
 mod constrain;
 mod defaults;
 mod equality;
@@ -50,7 +51,8 @@ pub struct Stand {
     pub depth: usize,
 }
 
-// The bindings as they are: the tokens, the words of the variables in the table, and how many bindings a walk may go through.
+// The bindings as they are: the tokens, the words of the variables in the table, and how many bindings a walk may go through. For equality the words are those
+// of the ends of chains (`Solver::chains`), and the number is that of the bindings that the ends were come to by, at most.
 #[derive(Clone, Copy)]
 pub struct Bindings<'a> {
     pub tokens: Tokens<'a>,

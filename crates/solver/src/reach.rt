@@ -27,7 +27,7 @@ pub enum Wanted {
 }
 
 impl Wanted {
-    // Whether a token is what is asked for. Here, in `push` and in `propagate_request` it comes as the two words that stand in the areas: a `Token` of them
+    // Whether a token is what is asked for. Here and in `push` it comes as the two words that stand in the areas: a `Token` of them
     // would be made at each call and taken apart at once.
     #[tactic(auto, unfolding(crate::specs::Words::ReachContract::counts))]
     pub fn is_met(self, kind: u32, val: u32) -> bool

@@ -4,6 +4,7 @@ ghost use Rattle.std.specs.Prelude.{◌≡◌, ℕ, ◌<◌, length};
 ghost use Rattle.terms.specs.Term.{Term, Held};
 ghost use Rattle.solver.specs.Constrain.{follow};
 ghost use Rattle.solver.specs.Words.Bindings.{HeldBindings};
+ghost use Rattle.solver.specs.Words.ChainRecord.{chain_ends};
 ghost use Rattle.solver.specs.Words.ChainEnds.{HeldEnd, Inside, variable_in, code_in, chain_word};
 
 use super::resolving::default_of;
@@ -13,37 +14,34 @@ use terms::Tokens;
 // The words of the table from this one on are defaults, for the builtins by their codes; a word below it is a place and 1.
 pub const DEFAULTS: u32 = 1 << 31;
 
-// What the term at p stands for: where it is a bound variable, its term, and so on, at most `most` times. The bindings are lent
-// in three: for `root_of` it is not known that the tokens are fewer than 2 ^ 32, as a `Bindings` says.
-pub fn shallow_resolve(tokens: &Tokens, bound: &[u32], most: usize, p: usize) -> ChainEnd
+// What the term at p stands for: where it is a bound variable, the end of its chain, by one look-up in the column of ends.
+pub fn shallow_resolve(tokens: &Tokens, ends: &[u32], p: usize) -> ChainEnd
     requires { p < length tokens.now.kinds.now }
     ensures inside { Inside (length tokens.now.kinds.now) result }
-    ensures term { (t : Term) (b : ℕ → Option Term)
+    ensures term { (t : Term) (b : ℕ → Option Term) (n : ℕ)
         → Held tokens.now.kinds.now tokens.now.vals.now p t
-        → HeldBindings tokens.now.kinds.now tokens.now.vals.now bound.now b
-        → HeldEnd tokens.now.kinds.now tokens.now.vals.now (follow most b t) result }
+        → HeldBindings tokens.now.kinds.now tokens.now.vals.now ends.now (chain_ends n b)
+        → HeldEnd tokens.now.kinds.now tokens.now.vals.now (follow n b t) result }
 {
-    let mut q = p;
-    for _ in 0..most {
-        if tokens.kinds[q] != 1 {
-            return ChainEnd::At(q);
-        }
-        let Some(word) = bound.get(tokens.vals[q] as usize) else {
-            return ChainEnd::At(q);
-        };
-        let next = *word as usize;
-        if next == 0 || tokens.kinds.len() < next {
-            return match default_of(*word) {
-                Some(b) => ChainEnd::Default(b),
-                None => ChainEnd::At(q),
-            };
-        }
-        q = next - 1;
+    if tokens.kinds[p] != 1 {
+        return ChainEnd::At(p);
     }
-    ChainEnd::At(q)
+    let v = tokens.vals[p] as usize;
+    if ends.len() <= v {
+        return ChainEnd::At(p);
+    }
+    let word = ends[v];
+    if let Some(b) = default_of(word) {
+        return ChainEnd::Default(b);
+    }
+    let next = word as usize;
+    if next == 0 || tokens.kinds.len() < next {
+        return ChainEnd::At(p);
+    }
+    ChainEnd::At(next - 1)
 }
 
-// The variable that a top is.
+// The variable that an end is.
 pub fn variable_of(tokens: &Tokens, q: ChainEnd) -> Option<u32>
     requires { Inside (length tokens.now.kinds.now) q }
     ensures { (t : Term) → HeldEnd tokens.now.kinds.now tokens.now.vals.now t q → result ≡ variable_in t }

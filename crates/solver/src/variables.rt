@@ -1,13 +1,14 @@
 // Orders 0 to 2: the variable of a place.
 ghost use Rattle.std.specs.Prelude.{Some, unwrap_or, ◌≡◌, true, false, List, ℕ, ◌+◌, ◌*◌, ◌^◌, ◌≤◌, ◌<◌, length, get_or};
-ghost use Rattle.solver.specs.Session.{VariablePlace, at, gap, Session, find};
+ghost use Rattle.solver.specs.Invariant.{InOrder};
+ghost use Rattle.solver.specs.Session.{VariablePlace, at, gap, Session, issued, find};
 ghost use Rattle.solver.specs.Orders as orders;
 ghost use Rattle.solver.specs.Words.SessionRepresentation.{limits_of, place_words, site_words, slot_words, request_in, HeldPlace, HeldPlaces, Represents};
 ghost use Rattle.solver.specs.Words.MethodContract.{matches, last_match, Shaped, Beside, placed, named_of, Issued, Replied, reply_of};
 ghost use Rattle.solver.specs.Words.MethodContract.{resolved_reply};
 ghost use Rattle.solver.specs.Words.OrderTerms.{place_of};
 
-use super::layout::{PLACES, SITES, SLOTS};
+use super::layout::{PLACES, SITES, SLOTS, TAILS};
 use super::{Issue, NumberRequest, PlaceWords, Site, Solver, Table};
 
 // Whether a variable's words are those asked for: a hole has no slot. The words are compared, and no `Site` is made of them: the third word of a hole
@@ -70,6 +71,7 @@ impl Solver {
         requires { Shaped self (length tables.old) }
         ensures held { (ks vs : List ℕ) (s : Session) (p : VariablePlace)
             → HeldPlace p asked.kind asked.site asked.slot
+            → InOrder (issued s) s.solver
             → Represents self ks vs tables.old s
             → Issued result.solver ks vs tables.new p (placed (limits_of self) s p) result.answer }
         ensures low { (v : ℕ) → result.answer ≡ Some v → v < self.variables }
@@ -96,6 +98,7 @@ impl Solver {
         tables[PLACES * m + issued] = asked.kind;
         tables[SITES * m + issued] = asked.site;
         tables[SLOTS * m + issued] = asked.slot;
+        tables[TAILS * m + issued] = (issued + 1) as u32;
         self.issued = issued + 1;
         Issue {
             solver: self,
@@ -105,8 +108,9 @@ impl Solver {
 
     // Order 0: the variable of a slot of a site.
     pub fn variable(mut self, tables: &mut [u32], site: u32, slot: u32) -> Issue
-        requires { Shaped self (length tables.old) × ((ks vs : List ℕ) × (s : Session) × Represents self ks vs tables.old s) }
+        requires { Shaped self (length tables.old) × ((ks vs : List ℕ) × (s : Session) × InOrder (issued s) s.solver × Represents self ks vs tables.old s) }
         ensures held { (ks vs : List ℕ) (s : Session)
+            → InOrder (issued s) s.solver
             → Represents self ks vs tables.old s
             → Replied result.solver ks vs tables.new (at site slot) (orders.order (limits_of self) s (orders.variable site slot)) reply_of result.answer }
         ensures beside { Beside self result.solver tables.old tables.new }
@@ -121,26 +125,26 @@ impl Solver {
         site: u32,
         request: NumberRequest,
     ) -> Issue
-        requires { Shaped self (length tables.old) × ((ks vs : List ℕ) × (s : Session) × Represents self ks vs tables.old s) }
+        requires { Shaped self (length tables.old) × ((ks vs : List ℕ) × (s : Session) × InOrder (issued s) s.solver × Represents self ks vs tables.old s) }
         ensures held { (ks vs : List ℕ) (s : Session)
+            → InOrder (issued s) s.solver
             → Represents self ks vs tables.old s
             → Replied result.solver ks vs tables.new (at site 1) (orders.order (limits_of self) s (orders.number site (request_in request.word)))
             (resolved_reply (orders.order (limits_of self) s (orders.number site (request_in request.word))).session.solver) result.answer }
         ensures beside { Beside self result.solver tables.old tables.new }
     {
-        let m = self.variables;
         let c = self.issue(tables, PlaceWords::from(Site::Slot(site, 1)));
         if let Some(v) = c.answer {
-            let at = m + v as usize;
-            tables[at] = request.word;
+            c.solver.put_request(tables, v, request.word);
         }
         c
     }
 
     // Order 2: the variable of a hole.
     pub fn annotation_hole(mut self, tables: &mut [u32], site: u32) -> Issue
-        requires { Shaped self (length tables.old) × ((ks vs : List ℕ) × (s : Session) × Represents self ks vs tables.old s) }
+        requires { Shaped self (length tables.old) × ((ks vs : List ℕ) × (s : Session) × InOrder (issued s) s.solver × Represents self ks vs tables.old s) }
         ensures held { (ks vs : List ℕ) (s : Session)
+            → InOrder (issued s) s.solver
             → Represents self ks vs tables.old s
             → Replied result.solver ks vs tables.new (gap site) (orders.order (limits_of self) s (orders.hole site))
             (resolved_reply (orders.order (limits_of self) s (orders.hole site)).session.solver) result.answer }

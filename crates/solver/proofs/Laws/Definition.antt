@@ -11,7 +11,7 @@
 --   LaterLaws            what is bound and issued stays so
 --   RequestLaws          requests of order 1: what they admit, how two meet, what a default takes
 --   QuietLaws            a pair that makes no binding leaves the session as it was
---   EndLaws              where chains of variables end, and which ends a binding moves
+--   ChainRecordLaws      the kept record of where chains end, and how it goes on
 pub mod FamilyLaws
 pub mod FormedTest
 pub mod NotionLaws
@@ -24,4 +24,4 @@ pub mod RecoveryLaws
 pub mod LaterLaws
 pub mod RequestLaws
 pub mod QuietLaws
-pub mod EndLaws
+pub mod ChainRecordLaws

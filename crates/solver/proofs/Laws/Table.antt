@@ -17,3 +17,5 @@ pub mod ChainLaws
 pub mod AdmitLaws
 pub mod OrderTermLaws
 pub mod SessionsLaws
+pub mod ChainWordLaws
+pub mod ChainTableLaws

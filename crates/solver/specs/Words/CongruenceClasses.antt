@@ -8,7 +8,7 @@ use Rattle.solver.specs.declared.Bindings.{Bindings}
 use Rattle.solver.specs.Constrain.{replace, replace_row, resolve, follow}
 use Rattle.solver.specs.Words.Bindings.{builtin}
 use Rattle.solver.specs.Words.Halves.{low_half, high_half}
-use Rattle.solver.specs.Words.Lent.{Binds}
+use Rattle.solver.specs.Words.Lent.{Ends}
 use Rattle.solver.specs.Words.ReachContract.{Steady, Topped}
 use Rattle.solver.specs.Words.SessionRepresentation.{begins}
 
@@ -62,9 +62,9 @@ pub data Up (par : List ℕ) : ℕ → ℕ → Type 0 where
 
 -- ---- what the words say of the terms
 
--- the lent bindings are b, and their number of steps follows b to the end
+-- what is lent has the ends of b, and the number of steps follows b to the end
 pub record HeldSteady (x : Bindings) (b : ℕ → Option Term) : Type 0 where
-  pub held : Binds x b
+  pub held : Ends x b
   pub steady : Steady x.most b
   pub topped : Topped x.most b
 

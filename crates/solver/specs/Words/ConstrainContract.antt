@@ -18,6 +18,7 @@ use Rattle.solver.specs.Words.SessionRepresentation.{Represents, limits_of, verd
 use Rattle.solver.specs.Words.PendingContract.{HeldPairs, PushedPairs}
 use Rattle.solver.specs.Words.Worklist.{Zero}
 use Rattle.solver.specs.Words.ChainEnds.{HeldEnd, Inside}
+use Rattle.solver.specs.Words.ChainRecord.{Coming, Last}
 use Rattle.solver.specs.Words.Halves.{half_words}
 use Rattle.solver.specs.Words.TableLayout.{lasting_words}
 
@@ -64,8 +65,10 @@ pub record CheckRoom (x : Solver) (ks st work : List ℕ) : Type 0 where
 pub record Facing (x : Solver) (ks vs ts : List ℕ) (s : Session) (v : ℕ) (q : ChainEnd) (t : Term) : Type 0 where
   pub represents : Represents x ks vs ts s
   pub steady : Steady s.solver.revision s.solver.bindings
+  pub coming : Coming (issued s) s.solver
   pub counted : s.solver.revision ≤ issued s
   pub free : s.solver.bindings v ≡ none
+  pub last : Last s.solver.bindings v t
   pub low : v < issued s
   pub inside : Inside (length ks) q
   pub held : HeldEnd ks vs t q

@@ -8,6 +8,7 @@ use Rattle.solver.specs.declared.Bindings.{Bindings}
 use Rattle.solver.specs.declared.Run.{Run}
 use Rattle.solver.specs.declared.Stand.{Stand}
 use Rattle.solver.specs.Words.Bindings.{HeldBindings}
+use Rattle.solver.specs.Words.ChainRecord.{chain_ends}
 use Rattle.solver.specs.Words.ResolveWalk.{walked, flat_bytes, standing_at, resolved_bytes}
 use Rattle.solver.specs.Words.ResolveFrames.{Settled}
 
@@ -21,6 +22,10 @@ RowBy x a ps = HeldParts x.tokens.kinds.now x.tokens.vals.now a.from a.end ps
 -- they are the bindings b
 abbrev pub Binds : Bindings → (ℕ → Option Term) → Type 0
 Binds x b = HeldBindings x.tokens.kinds.now x.tokens.vals.now x.bound.now b
+
+-- in the place of the bindings they have the ends of the chains of b, after so many bindings
+abbrev pub Ends : Bindings → (ℕ → Option Term) → Type 0
+Ends x b = HeldBindings x.tokens.kinds.now x.tokens.vals.now x.bound.now (chain_ends x.most b)
 
 -- the bytes of a run, and of the term at p, bound variables replaced
 abbrev pub walked_bytes : Bindings → Run → List ℕ

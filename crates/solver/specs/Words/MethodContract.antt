@@ -28,7 +28,7 @@ use Rattle.solver.specs.Words.TableLayout.{deferrals_from, lasting_words}
 pub record Shaped (x : Solver) (size : ℕ) : Type 0 where
   pub issued : x.issued ≤ x.variables
   pub room : lasting_words x.variables ≤ size
-  pub narrow : x.variables < 2 ^ 32
+  pub narrow : x.variables < 65536
 
 -- what a method leaves: the limits and the count of tokens, and the words after the columns
 pub record Beside (x y : Solver) (ts us : List ℕ) : Type 0 where
@@ -105,20 +105,6 @@ abbrev pub is_some : {A : Type 0} → Option A → Bool
 is_some none = false
 is_some (some x) = true
 
--- a term that is a variable is one of the first m
-abbrev pub at_most : ℕ → Term → Type 0
-at_most m (var w) = w < m
-at_most m (node k ps) = Unit {0}
-
--- and so is each binding
-abbrev pub Low : ℕ → (ℕ → Option Term) → Type 0
-Low m b = (v : ℕ) (t : Term) → b v ≡ some t → at_most m t
-
--- the variable of the table that a chain of bindings ends at, or m
-abbrev pub EndsAt : ℕ → Term → ℕ → Type 0
-EndsAt m (var w) r = w < m → r ≡ w
-EndsAt m (node k ps) r = r ≡ m
-
 -- the solver after v was bound to t
 abbrev pub bound_to : solving.Solver → ℕ → Term → Requests → solving.Solver
 bound_to z v t rs = record { bindings = put z.bindings v (some t); requests = rs; revision = suc z.revision }
@@ -137,14 +123,9 @@ mask_in word = pick (ltb 32 word) ((word - 33) / 32 % 256) (pick (eqb word 10) 7
 unfoldable pub joined_word : ℕ → ℕ → ℕ
 joined_word word other = pick (ltb (bit_or word other) 64) word (33 + (word - 1) % 32 + 32 * bit_and (mask_in word) (mask_in other))
 
--- the request of v was joined to that of the variable val, if there is one and the kind says that there is a variable
-pub record Handed (m v kind val : ℕ) (ts us : List ℕ) : Type 0 where
-  pub none : get_or ts (m + v) 0 ≡ 0 → us ≡ ts
-  pub node : (kind ≡ 1 → ⊥) → us ≡ ts
-  pub far : m ≤ val → us ≡ ts
-  pub on : (get_or ts (m + v) 0 ≡ 0 → ⊥) → kind ≡ 1 → val < m → us ≡ set ts (m + val) (joined_word (get_or ts (m + v) 0) (get_or ts (m + val) 0))
-  pub size : length us ≡ length ts
-  pub rest : drop (lasting_words m) us ≡ drop (lasting_words m) ts
+-- the solver with these requests
+abbrev pub requesting : solving.Solver → Requests → solving.Solver
+requesting z rs = record { bindings = z.bindings; requests = rs; revision = z.revision }
 
 -- ---- ranges
 

@@ -7,7 +7,10 @@
 --   3 site       0 for a variable that is not issued
 --   4 slot       0 for a hole, and for a variable that is not issued
 --   5 deferral   0 or 1
---   6 to 9, and what follows the columns up to the pending pairs: not used yet, 0
+--   6 end        0 for a free variable, else the word of the end of its chain, in the form of a binding
+--   7 tail       0 for a variable that is not issued, and where the chain ends at a node; w + 1 + 65536 * m where it ends at the variable w, whose family is
+--                the mask m; and 67108864 more where the variable's own tail names it and another chain ends there
+--   8, 9, and what follows the columns up to the pending pairs: not used yet, 0
 -- So every word of these is fixed. The rest of the table is scratch.
 use Rattle.std.specs.Prelude.{Bool, true, false, List, [], ◌∷◌, ◌≡◌, ℕ, ◌+◌, ◌-◌, ◌*◌, ◌/◌, ◌%◌, ◌^◌, ◌≤◌, ◌<◌, eqb, ltb, length, get_or, take, drop}
 use Rattle.std.proofs.Math.Option.{Option, none, some}
@@ -19,8 +22,10 @@ use Rattle.solver.specs.Families.{Numeric, I8, I16, I32, I64, U8, U16, U32, U64,
 use Rattle.solver.specs.Session.{Limits, VariablePlace, at, gap, Session, issued}
 use Rattle.solver.specs.Invariant.{WithinLimits}
 use Rattle.solver.specs.Words.Bindings.{defaults, HeldBindings}
-use Rattle.solver.specs.Words.TableLayout.{requests_from, places_from, sites_from, slots_from, deferrals_from, unused_from, unused_count, lasting_words}
+use Rattle.solver.specs.Words.TableLayout.{requests_from, places_from, sites_from, slots_from, deferrals_from, ends_from, tails_from, unused_from, unused_count, lasting_words}
 use Rattle.solver.specs.Words.Worklist.{Zero}
+unfoldable pub use Rattle.solver.specs.Words.Masks.{bit}
+use Rattle.solver.specs.Words.ChainRecord.{chain_ends, HeldTails}
 
 -- "0 incompatible, 1 compatible, 2 cancelled"
 abbrev pub verdict_number : Verdict → ℕ
@@ -51,6 +56,12 @@ slot_words m ts = take m (drop (slots_from m) ts)
 abbrev pub deferral_words : ℕ → List ℕ → List ℕ
 deferral_words m ts = take m (drop (deferrals_from m) ts)
 
+abbrev pub end_words : ℕ → List ℕ → List ℕ
+end_words m ts = take m (drop (ends_from m) ts)
+
+abbrev pub tail_words : ℕ → List ℕ → List ℕ
+tail_words m ts = take m (drop (tails_from m) ts)
+
 abbrev pub unused_words : ℕ → List ℕ → List ℕ
 unused_words m ts = take (unused_count m) (drop (unused_from m) ts)
 
@@ -59,9 +70,6 @@ unused_words m ts = take (unused_count m) (drop (unused_from m) ts)
 -- every type, by rising code
 abbrev pub every_numeric : List Numeric
 every_numeric = I8 ∷ I16 ∷ I32 ∷ I64 ∷ U8 ∷ U16 ∷ U32 ∷ U64 ∷ F32 ∷ F64 ∷ []
-
-unfoldable pub bit : ℕ → ℕ → Bool
-bit m n = eqb (m / 2 ^ n % 2) 1
 
 -- the types of a mask
 abbrev pub types_in : ℕ → List Numeric
@@ -121,7 +129,7 @@ pub record Represents (x : Solver) (ks vs ts : List ℕ) (s : Session) : Type 0 
   pub top : x.top ≡ length ks
   pub vals : length vs ≡ length ks
   pub short : length ks < defaults
-  pub narrow : x.variables < 2 ^ 32
+  pub narrow : x.variables < 65536
   pub room : lasting_words x.variables ≤ length ts
   pub fits : WithinLimits (limits_of x) s
   pub bindings : HeldBindings ks vs (binding_words x.variables ts) s.solver.bindings
@@ -129,6 +137,10 @@ pub record Represents (x : Solver) (ks vs ts : List ℕ) (s : Session) : Type 0 
   pub places : HeldPlaces (place_words x.variables ts) (site_words x.variables ts) (slot_words x.variables ts) s.places
   pub unplaced : Unplaced (length s.places) (place_words x.variables ts) (site_words x.variables ts) (slot_words x.variables ts)
   pub deferred : (v : ℕ) → get_or (deferral_words x.variables ts) v 0 ≡ flag (s.deferred v)
+  -- "The record is true after every order": the end of each chain, in the form of a binding, and the tail, of the variables issued
+  pub ends : HeldBindings ks vs (end_words x.variables ts) (chain_ends s.solver.revision s.solver.bindings)
+  pub tails : HeldTails s.solver (length s.places) (tail_words x.variables ts)
+  pub untailed : (v : ℕ) → length s.places ≤ v → get_or (tail_words x.variables ts) v 0 ≡ 0
   pub unused : Zero (unused_words x.variables ts)
   -- the terms in the areas are the kept ones
   pub begun : begins ks ≡ s.kept

@@ -21,5 +21,5 @@ counters limits = record { variables = limits.variables; nodes = limits.nodes; i
 
 -- a table of so many words is enough for a fresh session
 pub record FreshRoom (variables ts : ℕ) : Type 0 where
-  pub narrow : variables < 2 ^ 32
+  pub narrow : variables < 65536
   pub columns : lasting_words variables ≤ ts

@@ -3,7 +3,6 @@ use native.Mathlib.Omega.{arith}
 use Rattle.solver.specs.Words.SessionRepresentation.{limits_of}
 use Rattle.sheet.specs.Sheet.{solve}
 use Rattle.solver.specs.Words.MethodContract.{defaults_by}
-use Rattle.solver.proofs.Laws.Table.ChainLaws.{in_order_low}
 use Rattle.sheet.proofs.Laws.Answering.SessionOrderLaws.{lent_revision, defaults_tell, defaults_not, defaults_done}
 use Rattle.sheet.proofs.plain_orders.default_order.Goals as goal
 
@@ -21,4 +20,4 @@ pub returns : goal.returns
 returns c =
     let a = c.args in
     let e = c.apply_defaults-y.ensures in
-    λ z A L. defaults_done L (solve (limits_of a.x) z (defaults_by a.which)) (defaults_tell a.which (limits_of a.x) z) a.out.now a.to c.requires.room.inside _ _ _ _ _ (omega (arith, c.if-out-to-lt-BYTE_ANSWER.false)) (e.held z L (in_order_low _ _ _ _ z A L)) e.beside (rw (c.revision-old.ensures.count, c.revision.ensures.count) at c.from.ensures) c.write_byte_answer-next.ensures
+    λ z A L. defaults_done L (solve (limits_of a.x) z (defaults_by a.which)) (defaults_tell a.which (limits_of a.x) z) a.out.now a.to c.requires.room.inside _ _ _ _ _ (omega (arith, c.if-out-to-lt-BYTE_ANSWER.false)) (e.held z L A) e.beside (rw (c.revision-old.ensures.count, c.revision.ensures.count) at c.from.ensures) c.write_byte_answer-next.ensures

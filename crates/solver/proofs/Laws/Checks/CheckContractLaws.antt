@@ -27,8 +27,12 @@ use Rattle.solver.specs.Session.{Session, issued, with_solver}
 use Rattle.solver.specs.Words.ReachContract.{Steady, Topped}
 use Rattle.solver.specs.Words.Bindings.{HeldBindings}
 use Rattle.solver.specs.Words.ChainEnds.{HeldEnd, Inside, variable_in, code_in, is_code, is_builtin}
-use Rattle.solver.specs.Words.SessionRepresentation.{binding_words, Represents}
-use Rattle.solver.specs.Words.MethodContract.{Beside, is_some, bound_to, at_most}
+use Rattle.terms.proofs.Laws.Held.SameLaws.{same_refl}
+use Rattle.unify.specs.Term.{clash}
+use Rattle.solver.specs.Words.ChainRecord.{Last, chain_ends}
+use Rattle.solver.specs.Words.SessionRepresentation.{end_words, Represents}
+use Rattle.solver.proofs.Laws.Definition.ChainRecordLaws.{in_order_coming}
+use Rattle.solver.specs.Words.MethodContract.{Beside, is_some, bound_to}
 use Rattle.solver.specs.Words.PendingContract.{PushedPairs, Twins}
 use Rattle.solver.specs.Words.ConstrainContract.{Within, Waiting, Facing, Nodes, Met, Due, After}
 use Rattle.solver.proofs.Laws.Definition.InOrderLaws.{in_order_ordered}
@@ -44,19 +48,17 @@ use Rattle.solver.proofs.Laws.Checks.CheckStepWords.{after_passed, after_failed,
 pub held_place : (ks vs : List ℕ) (p : ℕ) (t : Term) → Held ks vs p t → p < length ks
 held_place ks vs p t h = omega (arith, h.within, items_some t)
 
-pub within_most : (N m : ℕ) → N ≤ m → (t : Term) → Within N t → at_most m t
-unfolding AllVars
-within_most N m l (var v) w = omega arith
-within_most N m l (node k ps) w = tt
-
 -- ---- a variable meets a term
 
 module _ {x : Solver} {ks vs ts : List ℕ} {s : Session} {v : ℕ} {q : ChainEnd} {t : Term} (F : Facing x ks vs ts s v q t) where
   pub facing_low : v < x.variables
   facing_low = omega (arith, F.low, F.represents.fits.variables)
 
-  pub facing_bind : (v < x.variables) × Inside (length ks) q × (length ks < 2 ^ 32) × (x.revision < 2 ^ 33)
-  facing_bind = (facing_low, F.inside, omega (arith, F.represents.short), omega (arith, F.represents.revision, F.counted, F.represents.fits.variables, F.represents.narrow))
+  pub facing_issued : v < x.issued
+  facing_issued = omega (arith, F.low, F.represents.issued)
+
+  pub facing_bind : Inside (length ks) q × (length ks < 2 ^ 32) × (x.revision < 2 ^ 33)
+  facing_bind = (F.inside, omega (arith, F.represents.short), omega (arith, F.represents.revision, F.counted, F.represents.fits.variables, F.represents.narrow))
 
 none_of : (o : Option Requests) → is_some o ≡ false → o ≡ none
 none_of none e = refl
@@ -81,12 +83,11 @@ module _ {x : Solver} {ks vs ts : List ℕ} {s : Session} {v : ℕ} {q : ChainEn
 
   pub assign_bound : recovers (resolved s.solver t) ≡ false → is_some (admit s.solver.requests (s.solver.requests v) t) ≡ true → occurs v (resolved s.solver t) ≡ false
       → {y : Solver} {us : List ℕ}
-      → ((rs : Requests) → at_most x.variables t → admit s.solver.requests (s.solver.requests v) t ≡ some rs → Represents y ks vs us (with_solver s (bound_to s.solver v t rs)))
+      → ((rs : Requests) → admit s.solver.requests (s.solver.requests v) t ≡ some rs → Represents y ks vs us (with_solver s (bound_to s.solver v t rs)))
       → Beside x y ts us → After x ks vs ts us st st s a b count (bind s.solver v t ps) (record { solver = y; good = true; count = count })
   assign_bound e f g {y} {us} l d =
       let r = some_of (admit s.solver.requests (s.solver.requests v) t) f in
-      let low = within_most (issued s) x.variables F.represents.fits.variables t F.within in
-      after_bound x ks vs ts st s count ps F.represents W a b (bound_to s.solver v t r.0) (bind_bound s.solver v t ps r.0 e r.1 g) refl y us (l r.0 low r.1)
+      after_bound x ks vs ts st s count ps F.represents W a b (bound_to s.solver v t r.0) (bind_bound s.solver v t ps r.0 e r.1 g) refl y us (l r.0 r.1)
       d.variables d.nodes d.size
 
 -- ---- two nodes
@@ -261,11 +262,11 @@ module _ {x : Solver} {ks vs ts : List ℕ} {s : Session} {i j count : ℕ} {t u
 
   -- what `same_terms` answers
   pub due_same : {r : Bool}
-      → ((t u : Term) (b : ℕ → Option Term) → Held ks vs i t → Held ks vs j u → HeldBindings ks vs (binding_words x.variables ts) b → Steady x.revision b → Topped x.revision b → r ≡ same (resolve x.revision b t) (resolve x.revision b u))
+      → ((t u : Term) (b : ℕ → Option Term) → Held ks vs i t → Held ks vs j u → HeldBindings ks vs (end_words x.variables ts) (chain_ends x.revision b) → Steady x.revision b → Topped x.revision b → r ≡ same (resolve x.revision b t) (resolve x.revision b u))
       → same (resolved z t) (resolved z u) ≡ r
   due_same f =
       let e = D.represents.revision in
-      sym (f t u z.bindings D.left.held D.right.held D.represents.bindings (subst (λ (k : ℕ). Steady k z.bindings) (sym e) due_steady)
+      sym (f t u z.bindings D.left.held D.right.held (subst (λ (k : ℕ). HeldBindings ks vs (end_words x.variables ts) (chain_ends k z.bindings)) (sym e) D.represents.ends) (subst (λ (k : ℕ). Steady k z.bindings) (sym e) due_steady)
       (subst (λ (k : ℕ). Topped k z.bindings) (sym e) (ordered_topped (issued s) z order))
       ∙ ap (λ (k : ℕ). same (resolve k z.bindings t) (resolve k z.bindings u)) e)
 
@@ -275,13 +276,13 @@ module _ {x : Solver} {ks vs ts : List ℕ} {s : Session} {i j count : ℕ} {t u
 
   -- what `shallow_resolve` finds of the place p, and `variable_of` tells of an end
   abbrev Finds : ℕ → ChainEnd → Type 0
-  Finds p a = (t : Term) (b : ℕ → Option Term) → Held ks vs p t → HeldBindings ks vs (binding_words x.variables ts) b → HeldEnd ks vs (follow x.revision b t) a
+  Finds p a = (t : Term) (b : ℕ → Option Term) (n : ℕ) → Held ks vs p t → HeldBindings ks vs (end_words x.variables ts) (chain_ends n b) → HeldEnd ks vs (follow n b t) a
 
   abbrev Tells : ChainEnd → rust.Option ℕ → Type 0
   Tells a o = (t : Term) → HeldEnd ks vs t a → o ≡ variable_in t
 
   found : (p : ℕ) (a : ChainEnd) (y : Term) → Held ks vs p y → Finds p a → HeldEnd ks vs (top z y) a
-  found p a y h f = subst (λ (k : ℕ). HeldEnd ks vs (follow k z.bindings y) a) D.represents.revision (f y z.bindings h D.represents.bindings)
+  found p a y h f = f y z.bindings z.revision h D.represents.ends
 
   abbrev Left : (us st₀ st : List ℕ) → Checked → solving.Check → Type 0
   Left us st₀ st r w = After x ks vs ts us st₀ st s (top z t) (top z u) count w r
@@ -294,28 +295,53 @@ module _ {x : Solver} {ks vs ts : List ℕ} {s : Session} {i j count : ℕ} {t u
     at_b : HeldEnd ks vs (top z u) b
     at_b = found j b u D.right.held top_j
 
-    pub due_left : {o : rust.Option ℕ} {v : ℕ} → Tells a o → o ≡ Some v → Inside (length ks) b → Facing x ks vs ts s v b (top z u)
-    due_left {o} {v} f e l =
+    -- another variable, or a node, where the two terms differ
+    last_of : (y w : Term) (v : ℕ) → (resolved z y ≡ resolved z w → ⊥) → top z y ≡ var v → Last z.bindings v (top z w)
+    last_of y w v d e = go (top z w) refl
+      where
+        tops : (c : Term) → resolved z (top z c) ≡ resolved z c
+        tops = (ordered_topped (issued s) z order).tops
+
+        go : (c : Term) → top z w ≡ c → Last z.bindings v c
+        go (node k ps) q = tt
+        go (var n) q = (
+          top_free (issued s) z order w n q,
+          λ f.
+              let g : top z y ≡ top z w = e ∙ ap var (sym f) ∙ sym q in
+              d (sym (tops y) ∙ ap (resolved z) g ∙ tops w),
+        )
+
+    apart : same (resolved z t) (resolved z u) ≡ false → resolved z t ≡ resolved z u → ⊥
+    apart d e =
+        let r : true ≡ false = sym (same_refl (resolved z u)) ∙ sym (ap (λ (c : Term). same c (resolved z u)) e) ∙ d in
+        clash (cc (r))
+
+    pub due_left : {o : rust.Option ℕ} {v : ℕ} → same (resolved z t) (resolved z u) ≡ false → Tells a o → o ≡ Some v → Inside (length ks) b → Facing x ks vs ts s v b (top z u)
+    due_left {o} {v} d f e l =
         let p = variable_told (top z t) v (sym (f (top z t) at_a) ∙ e) in
         record {
           represents = D.represents;
           steady = due_steady;
+          coming = in_order_coming (issued s) z D.ordered;
           counted = ordered_revision (issued s) z order;
           free = top_free (issued s) z order t v p;
+          last = last_of t u v (apart d) p;
           low = top_low (issued s) z order t v D.left.within p;
           inside = l;
           held = at_b;
           within = top_within (issued s) z order u D.right.within;
         }
 
-    pub due_right : {o : rust.Option ℕ} {v : ℕ} → Tells b o → o ≡ Some v → Inside (length ks) a → Facing x ks vs ts s v a (top z t)
-    due_right {o} {v} f e l =
+    pub due_right : {o : rust.Option ℕ} {v : ℕ} → same (resolved z t) (resolved z u) ≡ false → Tells b o → o ≡ Some v → Inside (length ks) a → Facing x ks vs ts s v a (top z t)
+    due_right {o} {v} d f e l =
         let p = variable_told (top z u) v (sym (f (top z u) at_b) ∙ e) in
         record {
           represents = D.represents;
           steady = due_steady;
+          coming = in_order_coming (issued s) z D.ordered;
           counted = ordered_revision (issued s) z order;
           free = top_free (issued s) z order u v p;
+          last = last_of u t v (λ e. apart d (sym e)) p;
           low = top_low (issued s) z order u v D.right.within p;
           inside = l;
           held = at_a;

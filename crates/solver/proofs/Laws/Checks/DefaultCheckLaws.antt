@@ -8,7 +8,7 @@ use lib.Dec.{eqb}
 use Rattle.std.specs.Prelude.{Some, None}
 use Rattle.std.specs.declared.option.Option as rust
 use Rattle.terms.specs.Result.{pick}
-use Rattle.terms.specs.Term.{Term, Parts, var, node, end, num, sub}
+use Rattle.terms.specs.Term.{Term, Parts, var, node, end, num, sub, AllVars}
 use Rattle.terms.specs.Questions.{among}
 use Rattle.terms.specs.Tree.{nums, row, tag, class, children, subs}
 use Rattle.terms.proofs.Laws.General.Bools.{never_true, never_false, or-none}
@@ -18,10 +18,15 @@ use Rattle.solver.proofs.Laws.Resolving.ChainEndLaws.{code_told}
 use Rattle.solver.specs.Shapes.{Notion, same_shape, blank_row, blank, unmarked, read_row, read, turned, pushed}
 use Rattle.solver.specs.Constrain as solving
 use Rattle.solver.specs.Constrain.{Pair, passed, failed, zip_on, recovery, projects, decompose}
+use Rattle.solver.specs.Words.ConstrainContract.{Within}
 use Rattle.solver.specs.Words.Bindings.{builtin}
 use Rattle.solver.specs.Words.ChainEnds.{code_row, code_in, is_code, is_builtin}
 
 -- ---- which term it is
+
+pub within_builtin : (N c : ℕ) → Within N (builtin c)
+unfolding AllVars
+within_builtin N c = tt
 
 builtin_told : (c : ℕ) (t : Term) → is_builtin c t ≡ true → t ≡ builtin c
 unfolding is_code

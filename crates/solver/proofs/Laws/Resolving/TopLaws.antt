@@ -1,86 +1,67 @@
--- Bound variables followed to the term that they stand for.
-use mathlib.Core.Path.{◌≡◌, refl, sym, ap, ◌∙◌}
+-- What a term stands for at its top, and how one look-up in the column of ends tells it.
+use mathlib.Core.Path.{◌≡◌, refl, sym, ap, subst, ◌∙◌}
 use mathlib.Core.List.{List}
 use mathlib.Core.Option.{Option, none, some}
-use Rattle.std.proofs.Math.Option.{some-injective, some-ne-none}
 use Prim.Native.Nat.{ℕ, zero, suc, ◌<◌}
 use native.Mathlib.Omega.{arith}
-use lib.ListN.{length, get_or}
-use Rattle.terms.specs.Term.{Term, Parts, var, node, num, end, Held}
-use Rattle.terms.proofs.Laws.Held.HeldLaws.{head_kind, head_value, held_first, items_some}
+use lib.ListN.{get_or}
+use Rattle.terms.specs.Term.{Term, Parts, var, node, Held}
+use Rattle.terms.proofs.Laws.Held.HeldLaws.{head_kind, head_value, held_first}
 use Rattle.solver.specs.Constrain.{followed, follow}
-use Rattle.solver.specs.Words.ResolveWalk.{default_of}
-use Rattle.solver.specs.Words.Bindings.{builtin, HeldWord.placed, HeldWord.coded, HeldBinding, HeldBindings}
-use Rattle.solver.proofs.Laws.Resolving.DefaultWordLaws.{default_low, default_code}
+use Rattle.solver.specs.Words.Bindings.{HeldWord, HeldWord.placed, HeldWord.coded, HeldBinding, HeldBindings}
+use Rattle.solver.specs.Words.ChainRecord.{end_if, chain_ends}
 
 pub follow_node : (n : ℕ) (b : ℕ → Option Term) (k : ℕ) (ps : Parts) → follow n b (node k ps) ≡ node k ps
 unfolding follow
 follow_node zero b k ps = refl
 follow_node (suc n) b k ps = refl
 
-pub follow_none : (n : ℕ) (b : ℕ → Option Term) (t : Term) → n ≡ 0 → follow n b t ≡ t
-unfolding follow
-follow_none n b t e = rw e
+pub free_stays : (n : ℕ) (b : ℕ → Option Term) (v : ℕ) → b v ≡ none → follow n b (var v) ≡ var v
+unfolding follow followed
+free_stays zero b v p = refl
+free_stays (suc n) b v p = rw p refl
 
--- A variable at q whose word is w.
-module _ (ks vs bs : List ℕ) (b : ℕ → Option Term) (held : HeldBindings ks vs bs b) (q : ℕ) (is : get_or ks q 0 ≡ 1) where
-  abbrev word : ℕ
-  word = get_or bs (get_or vs q 0) 0
-
-  no_node : (k : ℕ) (ps : Parts) → Held ks vs q (node k ps) → ⊥
-  unfolding head_kind
-  no_node k ps h = let f = held_first ks vs q (node k ps) h in omega (arith, f.0)
-
-  binding : (v : ℕ) → Held ks vs q (var v) → HeldBinding ks vs (b v) word
-  unfolding head_value
-  binding v h = rw ((held_first ks vs q (var v) h).1) (held.words v)
-
-  stop_word : (n v : ℕ) → (0 < word → length ks < word) → default_of word ≡ none → (o : Option Term) → HeldBinding ks vs o word
-      → followed v o (λ u. follow n b u) ≡ var v
-  unfolding followed
-  stop_word n v far d none c = refl
-  stop_word n v far d (some t) (placed p e g) = absurd (omega (arith, far (omega (arith, e)), e, g.within, items_some t))
-  stop_word n v far d (some t) (coded c l e f) = absurd (some-ne-none c (sym (default_code word c l e) ∙ d))
-
-  -- a variable that is not bound
-  pub follow_stop : (n : ℕ) (t : Term) → Held ks vs q t → (0 < word → length ks < word) → default_of word ≡ none → follow n b t ≡ t
-  unfolding follow
-  follow_stop n (node k ps) h far d = absurd (no_node k ps h)
-  follow_stop zero (var v) h far d = refl
-  follow_stop (suc n) (var v) h far d = stop_word n v far d (b v) (binding v h)
-
-  code_word : (n v c : ℕ) → default_of word ≡ some c → (o : Option Term) → HeldBinding ks vs o word
-      → (c < 32) × (followed v o (λ u. follow n b u) ≡ builtin c)
-  unfolding followed
-  code_word n v c d none e = absurd (some-ne-none c (sym d ∙ default_low word (omega (arith, e))))
-  code_word n v c d (some t) (placed p e g) =
-      absurd (some-ne-none c (sym d ∙ default_low word (omega (arith, e, held.short, g.within, items_some t))))
-  code_word n v c d (some t) (coded x l e f) =
-      let y : x ≡ c = some-injective x c (sym (default_code word x l e) ∙ d) in
-      (omega (arith, l, y), ap (follow n b) f ∙ follow_node n b 4 (num x end) ∙ ap builtin y)
-
-  -- a variable that is bound to a builtin
-  pub follow_code : (n : ℕ) (t : Term) (c : ℕ) → Held ks vs q t → default_of word ≡ some c → (c < 32) × (follow (suc n) b t ≡ builtin c)
-  unfolding follow
-  follow_code n (node k ps) c h d = absurd (no_node k ps h)
-  follow_code n (var v) c h d = code_word n v c d (b v) (binding v h)
-
-  step_word : (n v p : ℕ) → word ≡ suc p → p < length ks → (o : Option Term) → HeldBinding ks vs o word
-      → (s : Term) × Held ks vs p s × (followed v o (λ u. follow n b u) ≡ follow n b s)
-  unfolding followed
-  step_word n v p w l none c = absurd (omega (arith, w, c))
-  step_word n v p w l (some t) (placed r e g) = let m : r ≡ p = omega (arith, w, e) in (t, rw m at g, refl)
-  step_word n v p w l (some t) (coded c m e f) = absurd (omega (arith, w, l, e, held.short))
-
-  -- a variable that is bound to the term at p
-  pub follow_step : (n p : ℕ) (t : Term) → Held ks vs q t → word ≡ suc p → p < length ks
-      → (s : Term) × Held ks vs p s × (follow (suc n) b t ≡ follow n b s)
-  unfolding follow
-  follow_step n p (node k ps) h w l = absurd (no_node k ps h)
-  follow_step n p (var v) h w l = step_word n v p w l (b v) (binding v h)
-
--- a term that is no variable stands for itself
+-- a term whose token is no variable stands for itself
 pub stands_alone : (ks vs : List ℕ) (p n : ℕ) (b : ℕ → Option Term) (t : Term) → Held ks vs p t → (get_or ks p 0 ≡ 1 → ⊥) → follow n b t ≡ t
 unfolding head_kind
 stands_alone ks vs p n b (var v) h e = absurd (e (held_first ks vs p (var v) h).0)
 stands_alone ks vs p n b (node k ps) h e = follow_node n b k ps
+
+-- ---- one look-up in the column of ends
+
+module _ {ks vs ws : List ℕ} (b : ℕ → Option Term) (n p : ℕ) (held : HeldBindings ks vs ws (chain_ends n b)) (at : get_or ks p 0 ≡ 1) where
+  -- the term is a variable, and its word tells where its chain ends
+  end_told : (t : Term) → Held ks vs p t → (v : ℕ) × (t ≡ var v) × (v ≡ get_or vs p 0)
+  unfolding head_kind head_value
+  end_told (var v) h = (v, refl, sym (held_first ks vs p (var v) h).1)
+  end_told (node k ps) h = absurd (omega (arith, (held_first ks vs p (node k ps) h).0))
+
+  -- by the word: free, bound
+  pub end_free : (t : Term) → Held ks vs p t → get_or ws (get_or vs p 0) 0 ≡ 0 → follow n b t ≡ t
+  unfolding end_if
+  end_free t h e =
+      let x = end_told t h in
+      let w = get_or ws x.0 0 in
+      let z : get_or ws x.0 0 ≡ 0 = ap (λ (i : ℕ). get_or ws i 0) x.2 ∙ e in
+      subst (λ (c : Term). follow n b c ≡ c) (sym x.1) (free_stays n b x.0 (go x.0 z (b x.0) refl (held.words x.0)))
+    where
+      go : (v : ℕ) → get_or ws v 0 ≡ 0 → (o : Option Term) → b v ≡ o → HeldBinding ks vs (end_if (b v) (follow n b (var v))) (get_or ws v 0) → b v ≡ none
+      go v z none q g = q
+      go v z (some u) q g = by (subst (λ (o : Option Term). HeldBinding ks vs (end_if o (follow n b (var v))) (get_or ws v 0)) q g)
+        where
+          by : HeldWord ks vs (follow n b (var v)) (get_or ws v 0) → b v ≡ none
+          by (placed i e f) = absurd (omega arith)
+          by (coded c l e f) = absurd (omega arith)
+
+  pub end_bound : (t : Term) → Held ks vs p t → (get_or ws (get_or vs p 0) 0 ≡ 0 → ⊥) → HeldWord ks vs (follow n b t) (get_or ws (get_or vs p 0) 0)
+  unfolding end_if
+  end_bound t h e =
+      let x = end_told t h in
+      subst (λ (i : ℕ). HeldWord ks vs (follow n b t) (get_or ws i 0)) x.2
+      (subst (λ (c : Term). HeldWord ks vs (follow n b c) (get_or ws x.0 0)) (sym x.1)
+      (go x.0 (λ z. e (sym (ap (λ (i : ℕ). get_or ws i 0) x.2) ∙ z)) (b x.0) refl (held.words x.0)))
+    where
+      go : (v : ℕ) → (get_or ws v 0 ≡ 0 → ⊥) → (o : Option Term) → b v ≡ o → HeldBinding ks vs (end_if (b v) (follow n b (var v))) (get_or ws v 0)
+          → HeldWord ks vs (follow n b (var v)) (get_or ws v 0)
+      go v z none q g = absurd (z (subst (λ (o : Option Term). HeldBinding ks vs (end_if o (follow n b (var v))) (get_or ws v 0)) q g))
+      go v z (some u) q g = subst (λ (o : Option Term). HeldBinding ks vs (end_if o (follow n b (var v))) (get_or ws v 0)) q g

@@ -9,27 +9,24 @@ use native.Mathlib.Decide.{ℕ_discrete}
 use borrow.Author.Tests.{eq-eqb, ne_eqb}
 use lib.Bits.{bit_and}
 use lib.Dec.{eqb}
-use lib.ListN.{length, get_or, set, drop}
+use lib.ListN.{length, get_or}
 use Rattle.terms.specs.Term.{Term, var, node, end, num, Held, Parts}
 use Rattle.terms.proofs.Laws.Held.HeldLaws.{head_kind, head_value, held_first}
 use Rattle.unify.specs.Solver.{put}
 use Rattle.unify.specs.Term.{clash}
 use Rattle.solver.specs.declared.Solver.{Solver}
-use Rattle.solver.specs.declared.ChainEnd.{ChainEnd}
-use Rattle.solver.specs.declared.ChainEnd.TheVariants.{At, Default}
-use Rattle.solver.specs.Words.Bindings.{HeldWord}
-use Rattle.solver.specs.Words.ChainEnds.{HeldEnd, chain_word}
-use Rattle.solver.specs.Words.TableLayout.{lasting_words}
+use Rattle.std.specs.Prelude.{None}
+use Rattle.solver.specs.Words.ChainEnds.{variable_in}
 use Rattle.solver.specs.Families.{Family, Request, belongs, meet}
 use Rattle.solver.specs.Constrain.{Requests, joined, join, allow, admit}
-use Rattle.solver.specs.Session.{Session, with_solver}
+use Rattle.solver.specs.Session.{Session, with_solver, request}
 use Rattle.solver.specs.Words.Bindings.{builtin}
 use Rattle.solver.specs.Words.SessionRepresentation.{bit, RequestWord, request_in, HeldRequest, Represents}
-use Rattle.solver.specs.Words.MethodContract.{Beside, is_some, at_most, bound_to, mask_in, joined_word, Handed}
-use Rattle.solver.proofs.Laws.Resolving.ChainEndLaws.{end_word_held, Coded, coded_words, coded_is}
+use Rattle.solver.specs.Words.MethodContract.{is_some, requesting, mask_in, joined_word}
+use Rattle.solver.proofs.Laws.Resolving.ChainEndLaws.{Coded, coded_words, coded_is}
 use Rattle.solver.proofs.Laws.Definition.RequestLaws.{belongs_builtin, belongs_none}
 use Rattle.solver.proofs.Laws.Table.RequestWordLaws.{bit_high, masks, word_admits, words_apart, words_meet, joined-none, held_none, held_some}
-use Rattle.solver.proofs.Laws.Table.MethodLaws.{beside_set, request_near, lent_request, lent_bound}
+use Rattle.solver.proofs.Laws.Table.MethodLaws.{request_near}
 
 -- ---- a builtin, by its tokens
 
@@ -109,111 +106,77 @@ module _ (ks vs : List ℕ) (q : ℕ) (rs : Requests) (ws : List ℕ) (held : (u
       go A B (yes z) = rw (eq-eqb (bit_and (mask_in (get_or ws v 0)) (mask_in (get_or ws w 0))) 0 z, words_apart (get_or ws v 0) (get_or ws w 0) A B z)
       go A B (no z) = rw (ne_eqb (bit_and (mask_in (get_or ws v 0)) (mask_in (get_or ws w 0))) 0 z, (words_meet (get_or ws v 0) (get_or ws w 0) A B z).1)
 
--- ---- the binding
+-- ---- the requests after it
 
--- a token tells whether a term is a variable, and which
-unfoldable pub Tells : ℕ → ℕ → Term → Type 0
-Tells kind val (var w) = (kind ≡ 1) × (val ≡ w)
-Tells kind val (node k ps) = kind ≡ 1 → ⊥
-
-tells_held : (ks vs : List ℕ) (q : ℕ) (t : Term) → Held ks vs q t → Tells (get_or ks q 0) (get_or vs q 0) t
-unfolding Tells head_kind head_value
-tells_held ks vs q (var w) h = held_first ks vs q (var w) h
-tells_held ks vs q (node k ps) h = λ e. omega (arith, (held_first ks vs q (node k ps) h).0)
-
-module _ (x : Solver) (ks vs ts us : List ℕ) (s : Session) (L : Represents x ks vs ts s) (v kind val : ℕ) (below : v < x.variables)
-    (H : Handed x.variables v kind val ts us) where
+module _ (x : Solver) (ks vs ts us : List ℕ) (s : Session) (L : Represents x ks vs ts s) (v : ℕ) (below : v < x.variables) where
   held_word : (w : ℕ) (o : Option Request) → w < x.variables → s.solver.requests w ≡ o → HeldRequest o (get_or ts (x.variables + w) 0)
   held_word w o l e =
       subst (λ (p : Option Request). HeldRequest p (get_or ts (x.variables + w) 0)) e
       (subst (λ (n : ℕ). HeldRequest (s.solver.requests w) n) (sym (request_near x.variables ts w l)) (L.requests w))
 
-  still : (rs : Requests) → s.solver.requests ≡ rs → us ≡ ts
-      → Represents x ks vs us (with_solver s (record { bindings = s.solver.bindings; requests = rs; revision = s.solver.revision }))
+  still : (rs : Requests) → s.solver.requests ≡ rs → us ≡ ts → Represents x ks vs us (with_solver s (requesting s.solver rs))
   still rs e f = rw (f, ← e) L
 
-  moves : (w : ℕ) (r : Request) (rs : Requests) → (get_or ts (x.variables + v) 0 ≡ 0 → ⊥) → w < x.variables → kind ≡ 1 → val ≡ w
-      → HeldRequest (some r) (joined_word (get_or ts (x.variables + v) 0) (get_or ts (x.variables + w) 0)) → put s.solver.requests w (some r) ≡ rs
-      → Represents x ks vs us (with_solver s (record { bindings = s.solver.bindings; requests = rs; revision = s.solver.revision }))
-  moves w r rs n l k d g f =
-      let j = joined_word (get_or ts (x.variables + v) 0) (get_or ts (x.variables + w) 0) in
-      let u : us ≡ set ts (x.variables + w) j = H.on n k (omega arith) ∙ rw d in
-      rw (u, ← f) (lent_request x ks vs ts s L w j r l g)
+  -- v has none
+  pub handed_none : (t : Term) (rs : Requests) → get_or ts (x.variables + v) 0 ≡ 0 → us ≡ ts → admit s.solver.requests (s.solver.requests v) t ≡ some rs
+      → Represents x ks vs us (with_solver s (requesting s.solver rs))
+  unfolding admit
+  handed_none t rs z f e =
+      let h : HeldRequest (s.solver.requests v) (get_or ts (x.variables + v) 0) = held_word v (s.solver.requests v) below refl in
+      let n = held_none (s.solver.requests v) (get_or ts (x.variables + v) 0) h z in
+      still rs (let g : some s.solver.requests ≡ some rs = ap (λ (o : Option Request). admit s.solver.requests o t) (sym n) ∙ e in cc (g)) f
 
-  pub lent_handed : (t : Term) (rs : Requests) → Tells kind val t → at_most x.variables t → admit s.solver.requests (s.solver.requests v) t ≡ some rs
-      → Represents x ks vs us (with_solver s (record { bindings = s.solver.bindings; requests = rs; revision = s.solver.revision }))
-  unfolding Tells admit join joined allow
-  lent_handed t rs h a e = go (s.solver.requests v) refl t h a e
+  -- it is bound to a node
+  pub handed_node : (t : Term) (rs : Requests) → None ≡ variable_in t → us ≡ ts → admit s.solver.requests (s.solver.requests v) t ≡ some rs
+      → Represents x ks vs us (with_solver s (requesting s.solver rs))
+  unfolding admit allow
+  handed_node (var w) rs n f e = clash (cc (n))
+  handed_node (node k ps) rs n f e = go (s.solver.requests v) e
     where
-      met : (w : ℕ) (r u : Request) → s.solver.requests v ≡ some r → s.solver.requests w ≡ some u → Tells kind val (var w) → w < x.variables
-          → (m : Option Request) → meet r u ≡ m → joined s.solver.requests w m ≡ some rs
-          → Represents x ks vs us (with_solver s (record { bindings = s.solver.bindings; requests = rs; revision = s.solver.revision }))
-      met w r u p o h l none i j = clash (cc)
-      met w r u p o h l (some g) i j =
-          let A = held_word v (some r) below p in
-          let B = held_word w (some u) l o in
-          let a = get_or ts (x.variables + v) 0 in
-          let b = get_or ts (x.variables + w) 0 in
-          let e : meet (request_in a) (request_in b) ≡ some g = ap₂ meet (sym A.1) (sym B.1) ∙ i in
-          let n : bit_and (mask_in a) (mask_in b) ≡ 0 → ⊥ = λ z. let y = words_apart a b A.0 B.0 z in clash (cc) in
-          let W = words_meet a b A.0 B.0 n in
-          let y : g ≡ request_in (joined_word a b) = let y = W.1 in cc in
-          moves w g rs (λ z. omega (arith, A.0.some)) l h.0 h.1 (W.0, y) (cc)
+      by : (b : Bool) → allow s.solver.requests b ≡ some rs → Represents x ks vs us (with_solver s (requesting s.solver rs))
+      by true j = still rs (cc (j)) f
+      by false j = clash (cc (j))
 
-      towards : (w : ℕ) (r : Request) → s.solver.requests v ≡ some r → Tells kind val (var w) → w < x.variables
-          → (o : Option Request) → s.solver.requests w ≡ o → join s.solver.requests r w o ≡ some rs
-          → Represents x ks vs us (with_solver s (record { bindings = s.solver.bindings; requests = rs; revision = s.solver.revision }))
-      towards w r p h l none o j =
-          let A = held_word v (some r) below p in
-          let a = get_or ts (x.variables + v) 0 in
-          let z : get_or ts (x.variables + w) 0 ≡ 0 = held_word w none l o in
-          let e : joined_word a (get_or ts (x.variables + w) 0) ≡ a = ap (joined_word a) z ∙ joined-none a A.0 in
-          moves w r rs (λ y. omega (arith, A.0.some)) l h.0 h.1 (subst (λ (n : ℕ). HeldRequest (some r) n) (sym e) A) (cc)
-      towards w r p h l (some u) o j = met w r u p o h l (meet r u) refl j
+      go : (o : Option Request) → admit s.solver.requests o (node k ps) ≡ some rs → Represents x ks vs us (with_solver s (requesting s.solver rs))
+      go none j = still rs (cc (j)) f
+      go (some r) j = by (belongs r.family (node k ps)) j
 
-      belonging : (kind ≡ 1 → ⊥) → (b : Bool) → allow s.solver.requests b ≡ some rs
-          → Represents x ks vs us (with_solver s (record { bindings = s.solver.bindings; requests = rs; revision = s.solver.revision }))
-      belonging h true j = still rs (cc) (H.node h)
-      belonging h false j = clash (cc)
+  -- to the variable w, whose request is the joined one from now on
+  module _ (w : ℕ) (l : w < x.variables) (some_word : get_or ts (x.variables + v) 0 ≡ 0 → ⊥)
+      (put_on : RequestWord (joined_word (get_or ts (x.variables + v) 0) (get_or ts (x.variables + w) 0))
+      → Represents x ks vs us (request s w (request_in (joined_word (get_or ts (x.variables + v) 0) (get_or ts (x.variables + w) 0))))) where
+    moves : (r : Request) (rs : Requests) → HeldRequest (some r) (joined_word (get_or ts (x.variables + v) 0) (get_or ts (x.variables + w) 0))
+        → put s.solver.requests w (some r) ≡ rs → Represents x ks vs us (with_solver s (requesting s.solver rs))
+    moves r rs g f = rw (← f, g.1) (put_on g.0)
 
-      go : (o : Option Request) → s.solver.requests v ≡ o → (t : Term) → Tells kind val t → at_most x.variables t → admit s.solver.requests o t ≡ some rs
-          → Represents x ks vs us (with_solver s (record { bindings = s.solver.bindings; requests = rs; revision = s.solver.revision }))
-      go none p t h a j = still rs (cc) (H.none (held_word v none below p))
-      go (some r) p (var w) h a j = towards w r p h a (s.solver.requests w) refl j
-      go (some r) p (node k ps) h a j = belonging h (belongs r.family (node k ps)) j
+    pub handed_to : (rs : Requests) → admit s.solver.requests (s.solver.requests v) (var w) ≡ some rs → Represents x ks vs us (with_solver s (requesting s.solver rs))
+    unfolding admit join joined
+    handed_to rs e = go (s.solver.requests v) refl e
+      where
+        met : (r u : Request) → s.solver.requests v ≡ some r → s.solver.requests w ≡ some u
+            → (m : Option Request) → meet r u ≡ m → joined s.solver.requests w m ≡ some rs → Represents x ks vs us (with_solver s (requesting s.solver rs))
+        met r u p o none i j = clash (cc (j))
+        met r u p o (some g) i j =
+            let A = held_word v (some r) below p in
+            let B = held_word w (some u) l o in
+            let a = get_or ts (x.variables + v) 0 in
+            let b = get_or ts (x.variables + w) 0 in
+            let e : meet (request_in a) (request_in b) ≡ some g = ap₂ meet (sym A.1) (sym B.1) ∙ i in
+            let n : bit_and (mask_in a) (mask_in b) ≡ 0 → ⊥ = λ z. let y = words_apart a b A.0 B.0 z in clash (cc) in
+            let W = words_meet a b A.0 B.0 n in
+            let y : g ≡ request_in (joined_word a b) = let y = W.1 in cc in
+            moves g rs (W.0, y) (cc (j))
 
-  -- the variable v is bound to the term of a word
-  pub lent_bind : (y : Solver) (word : ℕ) (t : Term) (rs : Requests) → Tells kind val t → HeldWord ks vs t word → at_most x.variables t
-      → admit s.solver.requests (s.solver.requests v) t ≡ some rs
-      → Beside x y us (set us v word) → y.issued ≡ x.issued → y.revision ≡ x.revision + 1 → y.kept ≡ x.kept
-      → Represents y ks vs (set us v word) (with_solver s (bound_to s.solver v t rs))
-  lent_bind y word t rs g h a e B i r k =
-      lent_bound x ks vs us (with_solver s (record { bindings = s.solver.bindings; requests = rs; revision = s.solver.revision })) (lent_handed t rs g a e) v word t below h y B i r k
+        towards : (r : Request) → s.solver.requests v ≡ some r → (o : Option Request) → s.solver.requests w ≡ o → join s.solver.requests r w o ≡ some rs
+            → Represents x ks vs us (with_solver s (requesting s.solver rs))
+        towards r p none o j =
+            let A = held_word v (some r) below p in
+            let a = get_or ts (x.variables + v) 0 in
+            let z : get_or ts (x.variables + w) 0 ≡ 0 = held_word w none l o in
+            let e : joined_word a (get_or ts (x.variables + w) 0) ≡ a = ap (joined_word a) z ∙ joined-none a A.0 in
+            moves r rs (subst (λ (n : ℕ). HeldRequest (some r) n) (sym e) A) (cc (j))
+        towards r p (some u) o j = met r u p o (meet r u) refl j
 
--- what is handed on where v is bound to an end: a place has its token, and a default hands on nothing
-abbrev pub HandedEnd : (m v : ℕ) (ks vs : List ℕ) → ChainEnd → (ts us : List ℕ) → Type 0
-HandedEnd m v ks vs (At p) ts us = Handed m v (get_or ks p 0) (get_or vs p 0) ts us
-HandedEnd m v ks vs (Default b) ts us = us ≡ ts
-
-handed_none : (m v : ℕ) (ts us : List ℕ) → us ≡ ts → Handed m v 0 0 ts us
-handed_none m v ts us e =
-    record { none = λ _. e; node = λ _. e; far = λ _. e; on = λ _ k _. absurd (omega arith); size = ap length e; rest = ap (drop (lasting_words m)) e }
-
--- the same, with the counters told, by the end
-module _ (x y : Solver) (ks vs ts us : List ℕ) (v word : ℕ) (below : v < x.variables) (a : y.variables ≡ x.variables) (b : y.nodes ≡ x.nodes) (c : y.top ≡ x.top)
-    (n : y.issued ≡ x.issued) (r : y.revision ≡ x.revision + 1) (k : y.kept ≡ x.kept) where
-  bound_told : (kind val : ℕ) → Handed x.variables v kind val ts us → (s : Session) (t : Term) (rs : Requests) → Represents x ks vs ts s
-      → Tells kind val t → HeldWord ks vs t word → at_most x.variables t → admit s.solver.requests (s.solver.requests v) t ≡ some rs
-      → Represents y ks vs (set us v word) (with_solver s (bound_to s.solver v t rs))
-  bound_told kind val H s t rs L g h m d =
-      lent_bind x ks vs ts us s L v kind val below H y word t rs g h m d
-      (beside_set x y us us v word (record { variables = a; nodes = b; top = c; size = refl; rest = refl }) (omega arith)) n r k
-
-  pub bound_held : (q : ChainEnd) → HandedEnd x.variables v ks vs q ts us → word ≡ chain_word q → (s : Session) (t : Term) (rs : Requests) → Represents x ks vs ts s
-      → HeldEnd ks vs t q → at_most x.variables t → admit s.solver.requests (s.solver.requests v) t ≡ some rs
-      → Represents y ks vs (set us v word) (with_solver s (bound_to s.solver v t rs))
-  unfolding Tells
-  bound_held (At p) H e s t rs L h m d =
-      bound_told (get_or ks p 0) (get_or vs p 0) H s t rs L (tells_held ks vs p t h) (rw e (end_word_held ks vs t (At p) h)) m d
-  bound_held (Default q) H e s t rs L h m d =
-      bound_told 0 0 (handed_none x.variables v ts us H) s t rs L (rw h.1 (λ z. omega (arith, z))) (rw e (end_word_held ks vs t (Default q) h)) m d
+        go : (o : Option Request) → s.solver.requests v ≡ o → admit s.solver.requests o (var w) ≡ some rs → Represents x ks vs us (with_solver s (requesting s.solver rs))
+        go none p j = absurd (some_word (held_word v none below p))
+        go (some r) p j = towards r p (s.solver.requests w) refl j

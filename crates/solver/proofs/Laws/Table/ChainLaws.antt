@@ -1,4 +1,4 @@
--- The end of a chain of bindings, the builtin that a default puts there, and the deferral of a term's top.
+-- The builtin that a default puts at the end of a chain, and the deferral of a term's top.
 use mathlib.Core.Path.{◌≡◌, refl, sym, ap, ◌∙◌, subst}
 use mathlib.Core.Bool.{Bool, true, false}
 use mathlib.Core.List.{List}
@@ -8,15 +8,8 @@ use native.Mathlib.Nat.{zero-add, add-zero}
 use native.Mathlib.Numerals.{add-one}
 use native.Mathlib.Omega.{arith}
 use native.Mathlib.Decide.{ℕ_discrete}
-use borrow.Author.Tests.{ltb-false}
-use lib.Dec.{ltb}
 use lib.ListN.{length, get_or, take, set}
-use Rattle.std.proofs.Math.Option.{some-ne-none}
-use Rattle.std.specs.Option.{unwrap_or}
-use Rattle.std.specs.Bool.{then_some}
-use lib.Seq.{length-take-le}
 use Rattle.terms.specs.Term.{Term, Parts, var, node, num, end, Held}
-use Rattle.terms.proofs.Laws.Held.HeldLaws.{items_some}
 use Rattle.std.specs.Prelude.{Some, None}
 use Rattle.std.specs.declared.option.Option as rust
 use Rattle.unify.specs.Term.{clash}
@@ -31,122 +24,20 @@ use Rattle.solver.specs.Constrain.{replace_row, followed, resolve, follow, resol
 use Rattle.solver.specs.Orders.{order}
 use Rattle.solver.specs.Session.{Limits, Session, issued, with_solver, deferring, settle_at, numeric_at, never_at, numeric_defaults_of, never_defaults_of}
 use Rattle.solver.specs.Invariant.{InOrder}
-use Rattle.solver.specs.Words.Bindings.{defaults, HeldBinding, HeldBindings, coded}
+use Rattle.solver.specs.Words.Bindings.{builtin}
+use Rattle.solver.specs.Words.ChainRecord.{Coming}
 use Rattle.solver.specs.Words.ChainEnds.{variable_in}
 use Rattle.solver.specs.Words.ReachContract.{Steady, Topped}
-use Rattle.solver.specs.Words.ResolveWalk.{run_len, Named, default_of}
 use Rattle.solver.specs.Words.SessionRepresentation.{limits_of, RequestWord, request_in, HeldRequest, flag, Represents}
-use Rattle.solver.specs.Words.MethodContract.{Beside, at_most, Low, EndsAt, never_word, default_word, end_word, default_at, defaulted, defaults_by}
+use Rattle.solver.specs.Words.MethodContract.{Beside, bound_to, never_word, default_word, end_word, default_at, defaulted, defaults_by}
 use Rattle.solver.specs.Words.ConstrainContract.{Within}
 use Rattle.solver.specs.Words.TableLayout.{deferrals_from}
-use Rattle.solver.proofs.Laws.Resolving.DefaultWordLaws.{default_low, word_default, word_below}
-use Rattle.solver.proofs.Laws.Resolving.FrameLaws.{run_none}
-use Rattle.solver.proofs.Laws.Resolving.ResolvedLaws.{run_held}
-use Rattle.solver.proofs.Laws.Resolving.TopLaws.{follow_none, follow_node}
-use Rattle.solver.proofs.Laws.Definition.SolverInvariantLaws.{var_within, ordered_within, ordered_steady, ordered_topped, top_low}
+use Rattle.solver.proofs.Laws.Definition.SolverInvariantLaws.{ordered_steady, ordered_topped, top_low}
 use Rattle.solver.proofs.Laws.Definition.InOrderLaws.{in_order_ordered}
 use Rattle.solver.proofs.Laws.Table.ColumnLaws.{column_read}
 use Rattle.solver.proofs.Laws.Table.RequestWordLaws.{held_none, held_some}
-use Rattle.solver.proofs.Laws.Table.MethodLaws.{beside_same, beside_then, lent_defer, lent_bound}
-
--- ---- from a variable on
-
--- nothing is followed
-pub end_none : (n : ℕ) (b : ℕ → Option Term) (m v : ℕ) → n ≡ 0 → EndsAt m (follow n b (var v)) v
-end_none n b m v e = rw (follow_none n b (var v) e) (λ l. refl)
-
-module _ (ks vs bs : List ℕ) (b : ℕ → Option Term) (held : HeldBindings ks vs bs b) (n v at len : ℕ) (i : Named ks vs (get_or bs v 0) at len) where
-  free_word : (o : Option Term) → HeldBinding ks vs o (get_or bs v 0) → default_of (get_or bs v 0) ≡ none → len ≡ 0 → (k : ℕ)
-      → followed v o (λ u. follow k b u) ≡ var v
-  unfolding followed
-  free_word none c d z k = refl
-  free_word (some t) c d z k =
-      let p = word_below c d in
-      absurd (omega (arith, i.size, ap (run_len ks vs) p.1, run_held ks vs p.0 t p.2, items_some t))
-
-  -- v is free
-  pub end_free : (m : ℕ) → default_of (get_or bs v 0) ≡ none → (n ≡ 0 → ⊥) → len ≡ 0 → EndsAt m (follow n b (var v)) v
-  unfolding follow
-  end_free m d e z = go n e
-    where
-      go : (k : ℕ) → (k ≡ 0 → ⊥) → EndsAt m (follow k b (var v)) v
-      go zero e = absurd (e refl)
-      go (suc k) e = rw (free_word (b v) (held.words v) d z k) (λ l. refl)
-
-  bound_word : (o : Option Term) → HeldBinding ks vs o (get_or bs v 0) → default_of (get_or bs v 0) ≡ none → (len ≡ 0 → ⊥) → (k : ℕ)
-      → (t : Term) × Held ks vs at t × (followed v o (λ u. follow k b u) ≡ follow k b t)
-  unfolding followed
-  bound_word none c d z k = absurd (z (i.size ∙ ap (run_len ks vs) c ∙ run_none ks vs))
-  bound_word (some t) c d z k =
-      let x = word_below c d in
-      let p : at ≡ x.0 = i.place (omega arith) ∙ ap pred x.1 ∙ omega arith in
-      (t, rw p x.2, refl)
-
-  -- v is bound: its chain is that of the term at its run
-  pub end_bound : default_of (get_or bs v 0) ≡ none → (n ≡ 0 → ⊥) → (len ≡ 0 → ⊥) → (t : Term) × Held ks vs at t × (follow n b (var v) ≡ follow (n - 1) b t)
-  unfolding follow
-  end_bound d e z = go n e
-    where
-      go : (k : ℕ) → (k ≡ 0 → ⊥) → (t : Term) × Held ks vs at t × (follow k b (var v) ≡ follow (k - 1) b t)
-      go zero e = absurd (e refl)
-      go (suc k) e = let q : suc k - 1 ≡ k = omega arith in rw q (bound_word (b v) (held.words v) d z k)
-
--- v is bound to a builtin
-pub end_code : (ks vs bs : List ℕ) (b : ℕ → Option Term) → HeldBindings ks vs bs b → (n v m c : ℕ) → (n ≡ 0 → ⊥) → default_of (get_or bs v 0) ≡ some c
-    → EndsAt m (follow n b (var v)) m
-unfolding follow followed
-end_code ks vs bs b held zero v m c e d = absurd (e refl)
-end_code ks vs bs b held (suc n) v m c e d = go (b v) (held.words v)
-  where
-    go : (o : Option Term) → HeldBinding ks vs o (get_or bs v 0) → EndsAt m (followed v o (λ u. follow n b u)) m
-    go none h = absurd (some-ne-none c (sym d ∙ default_low (get_or bs v 0) (omega (arith, h))))
-    go (some t) h = rw ((word_default h held.short c d).1, follow_node n b 4 (num c end)) refl
-
--- the term at the end of the chain, by the variable that it is
-module _ (m : ℕ) where
-  pub ends_node : (t : Term) → None ≡ variable_in t → EndsAt m t m
-  ends_node (var w) e = clash (cc)
-  ends_node (node k ps) e = refl
-
-  pub ends_variable : (t : Term) (w : ℕ) → Some w ≡ variable_in t → EndsAt m t (unwrap_or (then_some (ltb w m) w) m)
-  ends_variable (node k ps) w e = clash (cc)
-  ends_variable (var u) w e = go (ltb w m) refl
-    where
-      same : w ≡ u
-      same = cc
-
-      go : (b : Bool) → ltb w m ≡ b → u < m → unwrap_or (then_some b w) m ≡ u
-      go true f l = same
-      go false f l = absurd (omega (arith, ltb-false w m f, same))
-
--- ---- chains stay among the variables of the table
-
-low_bound : (m : ℕ) (b : ℕ → Option Term) → Low m b → (n v : ℕ) (o : Option Term) → b v ≡ o → v < m → ((t : Term) → at_most m t → at_most m (follow n b t))
-    → at_most m (followed v o (λ u. follow n b u))
-unfolding followed
-low_bound m b low n v none e l h = l
-low_bound m b low n v (some t) e l h = h t (low v t e)
-
-pub low_top : (m : ℕ) (b : ℕ → Option Term) → Low m b → (n : ℕ) (t : Term) → at_most m t → at_most m (follow n b t)
-unfolding follow
-low_top m b low zero t l = l
-low_top m b low (suc n) (var v) l = low_bound m b low n v (b v) refl l (low_top m b low n)
-low_top m b low (suc n) (node k ps) l = tt
-
-low_put : (m : ℕ) (b : ℕ → Option Term) (w c : ℕ) → Low m b → Low m (put b w (some (node 4 (num c end))))
-low_put m b w c low v t e = go (ℕ_discrete v w)
-  where
-    go : Dec (v ≡ w) → at_most m t
-    go (yes f) =
-        let g : some (node 4 (num c end)) ≡ some t = sym (put_same b w (some (node 4 (num c end)))) ∙ ap (put b w (some (node 4 (num c end)))) (sym f) ∙ e in
-        let h : node 4 (num c end) ≡ t = cc in
-        subst (λ (u : Term). at_most m u) h tt
-    go (no f) = low v t (sym (put_other b w (some (node 4 (num c end))) v f) ∙ e)
-
-pub low_settle : (m : ℕ) (z : solving.Solver) (c : ℕ → ℕ) (t : Term) → Low m z.bindings → Low m (settle_at z (λ w. node 4 (num (c w) end)) t).bindings
-unfolding settle_at
-low_settle m z c (var w) low = low_put m z.bindings w (c w) low
-low_settle m z c (node k ps) low = low
+use Rattle.solver.proofs.Laws.Table.MethodLaws.{beside_same, beside_then, lent_defer}
+use Rattle.solver.proofs.Laws.Definition.ChainRecordLaws.{in_order_coming, coming_after}
 
 -- ---- one default
 
@@ -206,48 +97,65 @@ module _ (which : Defaulted) (x : Solver) (ks vs ts : List ℕ) (s : Session) (L
                 ap (λ (i : ℕ). node 4 (num i end)) (sym (k none (record { some = omega arith; mask = λ j. omega arith; most = omega arith }) refl ∙ ap (λ (i : ℕ). taken (request_in i) none) h));
           }
 
-  module _ (low : Low x.variables s.solver.bindings) (w : ℕ) (e : EndsAt (length (take x.variables ts)) (follow x.revision s.solver.bindings (var v)) w)
-      (n : word ≡ 0 → ⊥) where
-    ends : EndsAt x.variables (top s.solver (var v)) w
-    ends =
-        let r = L.room in
-        subst (λ (n : ℕ). EndsAt x.variables (follow n s.solver.bindings (var v)) w) L.revision
-        (subst (λ (m : ℕ). EndsAt m (follow x.revision s.solver.bindings (var v)) w) (length-take-le x.variables ts (omega arith)) e)
-
-    most : at_most x.variables (top s.solver (var v))
-    most = low_top x.variables s.solver.bindings low s.solver.revision (var v) below
-
+  module _ (n : word ≡ 0 → ⊥) where
     default : Settles which
     default = settling which named n
 
     -- the chain ends at no variable
-    pub settled_stop : x.variables ≤ w → Represents x ks vs ts (with_solver s (default_at which s v))
+    pub settled_stop : None ≡ variable_in (top s.solver (var v)) → Represents x ks vs ts (with_solver s (default_at which s v))
     unfolding settle_at
-    settled_stop l = rw default.settles (go (top s.solver (var v)) ends most)
+    settled_stop e = rw default.settles (go (top s.solver (var v)) e)
       where
-        go : (t : Term) → EndsAt x.variables t w → at_most x.variables t → Represents x ks vs ts (with_solver s (settle_at s.solver default.builtin t))
-        go (var u) f o = absurd (let q = f o in omega arith)
-        go (node k ps) f o = L
+        go : (t : Term) → None ≡ variable_in t → Represents x ks vs ts (with_solver s (settle_at s.solver default.builtin t))
+        go (var u) f = clash (cc (f))
+        go (node k ps) f = L
 
-    -- the chain ends at the variable w
-    pub settled_bound : (y : Solver) (c : ℕ) → w < x.variables → Coded which w c → c < 32 → Beside x y ts (set ts w (defaults + c))
-        → y.issued ≡ x.issued → y.revision ≡ x.revision + 1 → y.kept ≡ x.kept
-        → Represents y ks vs (set ts w (defaults + c)) (with_solver s (default_at which s v))
+    -- it ends at the variable w, which was bound to the builtin with this code
+    pub settled_bound : (w c : ℕ) → Some w ≡ variable_in (top s.solver (var v)) → w < x.variables → Coded which w c → (y : Solver) (us : List ℕ)
+        → Represents y ks vs us (with_solver s (bound_to s.solver w (builtin c) s.solver.requests)) → Represents y ks vs us (with_solver s (default_at which s v))
     unfolding settle_at
-    settled_bound y c l h o B i r k = rw default.settles (go (top s.solver (var v)) ends most)
+    settled_bound w c e l h y us B = rw default.settles (go (top s.solver (var v)) e)
       where
-        go : (t : Term) → EndsAt x.variables t w → at_most x.variables t
-            → Represents y ks vs (set ts w (defaults + c)) (with_solver s (settle_at s.solver default.builtin t))
-        go (var u) f q =
-            let g : w ≡ u = f q in
-            rw (← g, default.coded w c l h) (lent_bound x ks vs ts s L w (defaults + c) (node 4 (num c end)) l (coded c o refl refl) y B i r k)
-        go (node j ps) f q = absurd (let g = f in omega arith)
+        go : (t : Term) → Some w ≡ variable_in t → Represents y ks vs us (with_solver s (settle_at s.solver default.builtin t))
+        go (var u) f =
+            let g : w ≡ u = cc (f) in
+            rw (← g, default.coded w c l h) B
+        go (node j ps) f = clash (cc (f))
+
+-- ---- following comes to an end after it, too
+
+module _ (N : ℕ) where
+  coming_settle : (z : solving.Solver) (d : ℕ → ℕ) (v : ℕ) → Coming N z → v < N → Coming N (settle_at z (λ w. node 4 (num (d w) end)) (top z (var v)))
+  unfolding settle_at
+  coming_settle z d v C h = go (top z (var v)) refl
+    where
+      go : (t : Term) → top z (var v) ≡ t → Coming N (settle_at z (λ w. node 4 (num (d w) end)) t)
+      go (var w) e = coming_after N z C w (node 4 (num (d w) end)) (C.free (var v) w e) tt (C.low v w h e) (λ x f. clash (cc (f)))
+      go (node k ps) e = C
+
+  numeric_coming : (n v : ℕ) (z : solving.Solver) → v + n ≤ N → Coming N z → Coming N (numeric_defaults_of n v z)
+  unfolding numeric_defaults_of numeric_at
+  numeric_coming zero v z l C = C
+  numeric_coming (suc n) v z l C = numeric_coming n (suc v) (numeric_at z v (z.requests v)) (omega arith) (go (z.requests v))
+    where
+      go : (o : Option Request) → Coming N (numeric_at z v o)
+      go none = C
+      go (some r) = coming_settle z (λ w. taken r (z.requests w)) v C (omega arith)
+
+  never_coming : (d : ℕ → Bool) (n v : ℕ) (z : solving.Solver) → v + n ≤ N → Coming N z → Coming N (never_defaults_of d n v z)
+  unfolding never_defaults_of never_at
+  never_coming d zero v z l C = C
+  never_coming d (suc n) v z l C = never_coming d n (suc v) (never_at z v (d v)) (omega arith) (go (d v))
+    where
+      go : (b : Bool) → Coming N (never_at z v b)
+      go false = C
+      go true = coming_settle z (λ w. 10) v C (omega arith)
 
 -- ---- all of them, by rising id
 
 -- a default for every variable before n
 pub record Applied (which : Defaulted) (x₀ : Solver) (ks vs ts₀ : List ℕ) (n : ℕ) (x : Solver) (ts : List ℕ) : Type 0 where
-  pub held : (s : Session) → Represents x₀ ks vs ts₀ s → Low x₀.variables s.solver.bindings → Represents x ks vs ts (with_solver s (defaulted which n s))
+  pub held : (s : Session) → Represents x₀ ks vs ts₀ s → Coming (issued s) s.solver → Represents x ks vs ts (with_solver s (defaulted which n s))
   pub beside : Beside x₀ x ts₀ ts
   pub issued : x.issued ≡ x₀.issued
   pub steps : x.revision ≤ x₀.revision + n
@@ -263,30 +171,12 @@ unfolding never_defaults_of
 never_more d zero v z = rw add-zero
 never_more d (suc n) v z = never_more d n (suc v) (never_at z v (d v)) ∙ (let e : suc v + n ≡ v + suc n = omega arith in rw e)
 
-pub numeric_low : (m n v : ℕ) (z : solving.Solver) → Low m z.bindings → Low m (numeric_defaults_of n v z).bindings
-unfolding numeric_defaults_of numeric_at
-numeric_low m zero v z low = low
-numeric_low m (suc n) v z low = numeric_low m n (suc v) (numeric_at z v (z.requests v)) (go (z.requests v))
-  where
-    go : (o : Option Request) → Low m (numeric_at z v o).bindings
-    go none = low
-    go (some r) = low_settle m z (λ w. taken r (z.requests w)) (top z (var v)) low
-
-pub never_low : (m : ℕ) (d : ℕ → Bool) (n v : ℕ) (z : solving.Solver) → Low m z.bindings → Low m (never_defaults_of d n v z).bindings
-unfolding never_defaults_of never_at
-never_low m d zero v z low = low
-never_low m d (suc n) v z low = never_low m d n (suc v) (never_at z v (d v)) (go (d v))
-  where
-    go : (b : Bool) → Low m (never_at z v b).bindings
-    go false = low
-    go true = low_settle m z (λ w. 10) (top z (var v)) low
-
 module _ (which : Defaulted) (x₀ : Solver) (ks vs ts₀ : List ℕ) where
   pub applied_start : Applied which x₀ ks vs ts₀ 0 x₀ ts₀
   unfolding defaulted numeric_defaults_of never_defaults_of
   applied_start =
       record {
-        held = λ s L low. subst (λ (y : solving.Solver). Represents x₀ ks vs ts₀ (with_solver s y)) (sym (go which s)) L;
+        held = λ s L C. subst (λ (y : solving.Solver). Represents x₀ ks vs ts₀ (with_solver s y)) (sym (go which s)) L;
         beside = beside_same x₀ ts₀;
         issued = refl;
         steps = omega arith;
@@ -298,10 +188,10 @@ module _ (which : Defaulted) (x₀ : Solver) (ks vs ts₀ : List ℕ) where
       go Deferred s = refl
 
   module _ (n : ℕ) (x y : Solver) (ts us : List ℕ) (A : Applied which x₀ ks vs ts₀ n x ts) (room : x₀.issued ≤ x₀.variables) where
-    low_before : (b : Defaulted) (s : Session) → Low x₀.variables s.solver.bindings → Low x₀.variables (defaulted b n s).bindings
+    coming_before : (b : Defaulted) (s : Session) → n ≤ issued s → Coming (issued s) s.solver → Coming (issued s) (defaulted b n s)
     unfolding defaulted
-    low_before Requested s low = numeric_low x₀.variables n 0 s.solver low
-    low_before Deferred s low = never_low x₀.variables s.deferred n 0 s.solver low
+    coming_before Requested s l C = numeric_coming (issued s) n 0 s.solver (omega arith) C
+    coming_before Deferred s l C = never_coming (issued s) s.deferred n 0 s.solver (omega arith) C
 
     -- the default of the next variable
     next : (b : Defaulted) (s : Session) → default_at b (with_solver s (defaulted b n s)) n ≡ defaulted b (n + 1) s
@@ -310,14 +200,13 @@ module _ (which : Defaulted) (x₀ : Solver) (ks vs ts₀ : List ℕ) where
     next Deferred s = sym (rw (add-one, never_more s.deferred n 0 s.solver, zero-add))
 
     pub applied_step : n < x₀.issued
-        → ((s : Session) → Represents x ks vs ts s → Low x.variables s.solver.bindings → Represents y ks vs us (with_solver s (default_at which s n)))
+        → ((s : Session) → Represents x ks vs ts s → Coming (issued s) s.solver → Represents y ks vs us (with_solver s (default_at which s n)))
         → Beside x y ts us → y.issued ≡ x.issued → y.revision ≤ x.revision + 1 → Applied which x₀ ks vs ts₀ (n + 1) y us
     applied_step l h B i r =
-        let v = A.beside.variables in
         record {
-          held = λ s L low.
+          held = λ s L C.
               subst (λ (z : solving.Solver). Represents y ks vs us (with_solver s z)) (next which s)
-              (h (with_solver s (defaulted which n s)) (A.held s L low) (subst (λ (m : ℕ). Low m (defaulted which n s).bindings) (sym v) (low_before which s low)));
+              (h (with_solver s (defaulted which n s)) (A.held s L C) (coming_before which s (omega (arith, A.most, L.issued)) C));
           beside = beside_then A.beside B;
           issued = i ∙ A.issued;
           steps = omega (arith, A.steps);
@@ -331,11 +220,11 @@ module _ (which : Defaulted) (x₀ : Solver) (ks vs ts₀ : List ℕ) where
   by_order Deferred lim s = refl
 
   -- every variable has its default
-  pub applied_end : (n : ℕ) (x : Solver) (ts : List ℕ) → Applied which x₀ ks vs ts₀ n x ts → n ≡ x₀.issued → (s : Session) → Represents x₀ ks vs ts₀ s → Low x₀.variables s.solver.bindings
+  pub applied_end : (n : ℕ) (x : Solver) (ts : List ℕ) → Applied which x₀ ks vs ts₀ n x ts → n ≡ x₀.issued → (s : Session) → Represents x₀ ks vs ts₀ s → InOrder (issued s) s.solver
       → Represents x ks vs ts (order (limits_of x₀) s (defaults_by which)).session
-  applied_end n x ts A e s L low =
+  applied_end n x ts A e s L o =
       subst (Represents x ks vs ts) (by_order which (limits_of x₀) s)
-      (subst (λ (k : ℕ). Represents x ks vs ts (with_solver s (defaulted which k s))) (e ∙ L.issued) (A.held s L low))
+      (subst (λ (k : ℕ). Represents x ks vs ts (with_solver s (defaulted which k s))) (e ∙ L.issued) (A.held s L (in_order_coming (issued s) s.solver o)))
 
 -- ---- a term's top decides whether it resolves to a variable
 
@@ -353,21 +242,9 @@ module _ (n : ℕ) (b : ℕ → Option Term) (S : Steady n b) (T : Topped n b) (
       let x = node_stays n k ps in
       (x.0, sym (T.tops t) ∙ ap (resolve n b) e ∙ x.1)
 
-module _ (x : Solver) (ks₀ vs₀ ts : List ℕ) (s : Session) (A : InOrder (issued s) s.solver) (L : Represents x ks₀ vs₀ ts s) where
-  -- every binding that is a variable is one of the table
-  pub in_order_low : Low x.variables s.solver.bindings
-  in_order_low v t e = go t (ordered_within (issued s) s.solver (in_order_ordered (issued s) s.solver A) v t e)
-    where
-      go : (u : Term) → Within (issued s) u → at_most x.variables u
-      go (var w) h = let f = L.fits.variables in omega (arith, var_within (issued s) w h)
-      go (node k ps) h = tt
-
 -- the term t, by the variable of its top
 module _ {x : Solver} {ks₀ vs₀ ts : List ℕ} {s : Session} (A : InOrder (issued s) s.solver) (L : Represents x ks₀ vs₀ ts s) where
-  module _ (t : Term) {r : rust.Option ℕ} (h : r ≡ variable_in (follow x.revision s.solver.bindings t)) where
-    atop : r ≡ variable_in (top s.solver t)
-    atop = subst (λ (m : ℕ). r ≡ variable_in (follow m s.solver.bindings t)) L.revision h
-
+  module _ (t : Term) {r : rust.Option ℕ} (atop : r ≡ variable_in (top s.solver t)) where
     S : Steady s.solver.revision s.solver.bindings
     S = ordered_steady (issued s) s.solver (in_order_ordered (issued s) s.solver A)
 

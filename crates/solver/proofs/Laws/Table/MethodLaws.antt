@@ -8,8 +8,8 @@ use native.Mathlib.Omega.{arith}
 use native.Mathlib.Decide.{ℕ_discrete}
 use borrow.Author.Tests.{le-leb, lt-leb, leb-true, leb-false, lt-ltb, le-ltb, ltb-true, eq-eqb, ne_eqb}
 use lib.Dec.{eqb, ltb}
-use lib.ListN.{length, get_or, drop, set, length-set}
-use lib.Seq.{length-take-le, take-set-le, take-set-lt, drop-set-lt, get_or-set_same, get_or-set_other}
+use lib.ListN.{length, get_or, take, drop, set, length-set}
+use lib.Seq.{drop-drop, length-take-le, take-set-le, take-set-lt, drop-set-lt, get_or-set_same, get_or-set_other}
 use Rattle.terms.specs.Result.{pick}
 use Rattle.terms.specs.Term.{Term, var}
 use Rattle.unify.specs.Solver.{put, put_same, put_other}
@@ -26,16 +26,19 @@ use Rattle.solver.specs.declared.Site.TheVariants.{Slot, Hole}
 use Rattle.solver.specs.Families.{Request}
 use Rattle.solver.specs.Session.{Limits, VariablePlace, at, gap, same_place, Session, issued, find, with_solver, issue_at, request, deferring}
 use Rattle.solver.specs.Orders.{full, variable_step, number_at, hole_at}
-use Rattle.solver.specs.Invariant.{WithinLimits}
+use Rattle.solver.specs.Invariant.{WithinLimits, InOrder}
 use Rattle.solver.specs.Words.Bindings.{HeldWord, HeldBindings}
+use Rattle.solver.specs.Words.ChainRecord.{chain_ends, Coming, HeldTails}
+use Rattle.solver.specs.Words.ChainWords.{Near, ChainsMoved, TailsSet}
 use Rattle.solver.specs.Words.Worklist.{Zero}
-use Rattle.solver.specs.Words.SessionRepresentation.{limits_of, binding_words, request_words, place_words, site_words, slot_words, deferral_words, HeldRequest, HeldPlace, HeldPlaces, Unplaced, flag, unused_words, Represents}
-use Rattle.solver.specs.Words.MethodContract.{Beside, matches, last_match, found, placing, placed, named_of, Issued, Replied, reply_of, resolved_reply, joined_word, Handed, never_word, default_word, end_word}
+use Rattle.solver.specs.Words.SessionRepresentation.{limits_of, binding_words, request_words, place_words, site_words, slot_words, deferral_words, end_words, tail_words, HeldRequest, HeldPlace, HeldPlaces, Unplaced, flag, unused_words, Represents}
+use Rattle.solver.specs.Words.MethodContract.{Shaped, Beside, bound_to, matches, last_match, found, placing, placed, named_of, Issued, Replied, reply_of, resolved_reply, never_word, default_word, end_word}
 use Rattle.solver.specs.Words.OrderTerms.{place_of, words_of}
-use Rattle.solver.specs.Words.TableLayout.{places_from, sites_from, slots_from, deferrals_from, unused_from, unused_count, lasting_words}
+use Rattle.solver.specs.Words.TableLayout.{requests_from, places_from, sites_from, slots_from, deferrals_from, ends_from, tails_from, unused_from, unused_count, lasting_words}
 use Rattle.solver.proofs.Laws.Definition.InOrderLaws.{find_issued}
+use Rattle.solver.proofs.Laws.Definition.ChainRecordLaws.{in_order_coming, coming_issued, tails_issued}
 use Rattle.solver.proofs.Laws.Resolving.BindingLaws.{bind_held}
-use Rattle.solver.proofs.Laws.Table.ColumnLaws.{column_read, column_length, column_write, column_before, column_behind}
+use Rattle.solver.proofs.Laws.Table.ColumnLaws.{column_read, column_length, column_write, column_before, column_behind, column_same}
 use Rattle.solver.proofs.Laws.Table.RequestWordLaws.{put_held}
 
 -- ---- the method's table beside the columns
@@ -64,6 +67,49 @@ beside_then {x} {y} {z} {ts} {us} {ws} B C =
       rest = subst (λ (m : ℕ). drop (lasting_words m) ws ≡ drop (lasting_words m) us) B.variables C.rest ∙ B.rest;
     }
 
+-- ---- tables that differ in the record of chains alone
+
+pub near_same : (m : ℕ) (ts : List ℕ) → Near m ts ts
+near_same m ts = record { size = refl; front = refl; rest = refl }
+
+pub near_then : {m : ℕ} {ts us ws : List ℕ} → Near m ts us → Near m us ws → Near m ts ws
+near_then N M = record { size = M.size ∙ N.size; front = M.front ∙ N.front; rest = M.rest ∙ N.rest }
+
+-- a word of the two columns is written
+pub near_set : (m : ℕ) (ts : List ℕ) (i w : ℕ) → ends_from m ≤ i → i < unused_from m → Near m ts (set ts i w)
+near_set m ts i w h l = record { size = length-set ts i w; front = take-set-le (ends_from m) ts i w h; rest = drop-set-lt (unused_from m) ts i w l }
+
+pub near_tails : {m n v tail : ℕ} {ts us : List ℕ} → TailsSet m n v tail ts us → Near m ts us
+near_tails {m} {ts = ts} {us = us} T = record {
+  size = T.size;
+  front = column_same (ends_from m) 0 (tails_from m) us ts T.front (omega arith);
+  rest = T.rest;
+}
+
+pub near_moved : {m n v end tail : ℕ} {ts us : List ℕ} → ChainsMoved m n v end tail ts us → Near m ts us
+near_moved M = record { size = M.size; front = M.front; rest = M.rest }
+
+module _ {m : ℕ} {ts us : List ℕ} (N : Near m ts us) where
+  pub near_column : (k o : ℕ) → o + k ≤ ends_from m → take k (drop o us) ≡ take k (drop o ts)
+  near_column k o h = column_same k o (ends_from m) us ts N.front h
+
+  pub near_unused : unused_words m us ≡ unused_words m ts
+  near_unused = ap (λ (l : List ℕ). take (unused_count m) l) N.rest
+
+  pub near_rest : drop (lasting_words m) us ≡ drop (lasting_words m) ts
+  near_rest =
+      sym (drop-drop (unused_count m) (unused_from m) us) ∙ ap (λ (l : List ℕ). drop (unused_count m) l) N.rest ∙ drop-drop (unused_count m) (unused_from m) ts
+
+-- the record of chains is written
+pub beside_near : {x y : Solver} {ts us ws : List ℕ} → Beside x y ts us → Near x.variables us ws → Beside x y ts ws
+beside_near {x} B N = record { variables = B.variables; nodes = B.nodes; top = B.top; size = N.size ∙ B.size; rest = near_rest N ∙ B.rest }
+
+-- what the two columns hold
+pub record Chained (m : ℕ) (ks vs us : List ℕ) (s : Session) : Type 0 where
+  pub ends : HeldBindings ks vs (end_words m us) (chain_ends s.solver.revision s.solver.bindings)
+  pub tails : HeldTails s.solver (issued s) (tail_words m us)
+  pub untailed : (v : ℕ) → issued s ≤ v → get_or (tail_words m us) v 0 ≡ 0
+
 -- ---- one law for all changes: what has changed is told
 
 module _ (x y : Solver) (ks vs ts us : List ℕ) (s : Session) (L : Represents x ks vs ts s) (B : Beside x y ts us) where
@@ -78,6 +124,7 @@ module _ (x y : Solver) (ks vs ts us : List ℕ) (s : Session) (L : Represents x
     pub places : HeldPlaces (place_words x.variables us) (site_words x.variables us) (slot_words x.variables us) s'.places
     pub unplaced : Unplaced (length s'.places) (place_words x.variables us) (site_words x.variables us) (slot_words x.variables us)
     pub deferred : (v : ℕ) → get_or (deferral_words x.variables us) v 0 ≡ flag (s'.deferred v)
+    pub chains : Chained x.variables ks vs us s'
     pub unused : unused_words x.variables us ≡ unused_words x.variables ts
 
   pub lent_changed : (s' : Session) → Changed s' → Represents y ks vs us s'
@@ -90,7 +137,7 @@ module _ (x y : Solver) (ks vs ts us : List ℕ) (s : Session) (L : Represents x
         top = B.top ∙ L.top;
         vals = L.vals;
         short = L.short;
-        narrow = subst (λ (m : ℕ). m < 2 ^ 32) e L.narrow;
+        narrow = subst (λ (m : ℕ). m < 65536) e L.narrow;
         room = omega (arith, B.variables, B.size, L.room);
         fits = record { variables = omega (arith, B.variables, C.most); nodes = omega (arith, B.nodes, C.sum, L.fits.nodes) };
         bindings = subst (λ (m : ℕ). HeldBindings ks vs (binding_words m us) s'.solver.bindings) e C.bindings;
@@ -98,9 +145,16 @@ module _ (x y : Solver) (ks vs ts us : List ℕ) (s : Session) (L : Represents x
         places = subst (λ (m : ℕ). HeldPlaces (place_words m us) (site_words m us) (slot_words m us) s'.places) e C.places;
         unplaced = subst (λ (m : ℕ). Unplaced (length s'.places) (place_words m us) (site_words m us) (slot_words m us)) e C.unplaced;
         deferred = subst (λ (m : ℕ). (v : ℕ) → get_or (deferral_words m us) v 0 ≡ flag (s'.deferred v)) e C.deferred;
+        ends = subst (λ (m : ℕ). HeldBindings ks vs (end_words m us) (chain_ends s'.solver.revision s'.solver.bindings)) e C.chains.ends;
+        tails = subst (λ (m : ℕ). HeldTails s'.solver (issued s') (tail_words m us)) e C.chains.tails;
+        untailed = subst (λ (m : ℕ). (v : ℕ) → issued s' ≤ v → get_or (tail_words m us) v 0 ≡ 0) e C.chains.untailed;
         unused = subst (λ (m : ℕ). Zero (unused_words m us)) e (subst Zero (sym C.unused) L.unused);
         begun = omega (arith, L.begun, C.sum);
       }
+
+-- a session that is held has the shape that methods ask for
+pub held_shaped : {x : Solver} {ks vs ts : List ℕ} {s : Session} → Represents x ks vs ts s → Shaped x (length ts)
+held_shaped L = record { issued = omega (arith, L.issued, L.fits.variables); room = L.room; narrow = L.narrow }
 
 -- ---- places
 
@@ -262,10 +316,51 @@ module _ (x : Solver) (ks vs ts : List ℕ) (s : Session) (L : Represents x ks v
       → Unplaced (length s.places) (place_words m us) (site_words m us) (slot_words m us)
   fixed_unplaced us e f g = rw (e, f, g) L.unplaced
 
+  -- the record where its columns are the same
+  fixed_chains : (us : List ℕ) → end_words m us ≡ end_words m ts → tail_words m us ≡ tail_words m ts → Chained m ks vs us s
+  fixed_chains us e f = record {
+    ends = rw e L.ends;
+    tails = subst (λ (l : List ℕ). HeldTails s.solver (issued s) l) (sym f) L.tails;
+    untailed = λ v h. ap (λ (l : List ℕ). get_or l v 0) f ∙ L.untailed v h;
+  }
+
   -- a new variable at the place p
-  module _ (p : VariablePlace) (kind site slot : ℕ) (h : HeldPlace p kind site slot) (below : x.issued < m) where
+  module _ (p : VariablePlace) (kind site slot : ℕ) (h : HeldPlace p kind site slot) (below : x.issued < m) (o : InOrder (issued s) s.solver) where
+    abbrev placed_words : List ℕ
+    placed_words = set (set (set ts (places_from m + x.issued) kind) (sites_from m + x.issued) site) (slots_from m + x.issued) slot
+
     abbrev written : List ℕ
-    written = set (set (set ts (places_from m + x.issued) kind) (sites_from m + x.issued) site) (slots_from m + x.issued) slot
+    written = set placed_words (tails_from m + x.issued) (x.issued + 1)
+
+    chained : Chained m ks vs written (issue_at s p)
+    chained =
+        let n = L.issued in
+        let r = L.room in
+        let low = L.narrow in
+        let a = set ts (places_from m + x.issued) kind in
+        let b = set a (sites_from m + x.issued) site in
+        let tails : tail_words m written ≡ set (tail_words m ts) (issued s) (issued s + 1)
+        = column_write m (tails_from m) placed_words _ x.issued (x.issued + 1) refl below
+        ∙ ap (λ (l : List ℕ). set l x.issued (x.issued + 1))
+        (column_before m (tails_from m) b (slots_from m + x.issued) slot (omega arith) ∙ column_before m (tails_from m) a (sites_from m + x.issued) site (omega arith)
+        ∙ column_before m (tails_from m) ts (places_from m + x.issued) kind (omega arith))
+        ∙ ap (λ (j : ℕ). set (tail_words m ts) j (j + 1)) n in
+        let ends : end_words m written ≡ end_words m ts
+        = column_behind m (ends_from m) placed_words (tails_from m + x.issued) (x.issued + 1) (omega arith)
+        ∙ column_before m (ends_from m) b (slots_from m + x.issued) slot (omega arith) ∙ column_before m (ends_from m) a (sites_from m + x.issued) site (omega arith)
+        ∙ column_before m (ends_from m) ts (places_from m + x.issued) kind (omega arith) in
+        let size = column_length m (tails_from m) ts (omega arith) in
+        let C = in_order_coming (issued s) s.solver o in
+        let old = λ (u : ℕ). get_or (tail_words m ts) u 0 in
+        let new = λ (u : ℕ). get_or (set (tail_words m ts) (issued s) (issued s + 1)) u 0 in
+        record {
+          ends = rw ends L.ends;
+          tails = subst (λ (l : List ℕ). HeldTails s.solver (suc (issued s)) l) (sym tails)
+              (tails_issued (issued s) s.solver C (o.unbound (issued s) (omega arith)) (o.unrequested (issued s) (omega arith)) old new L.tails
+              (get_or-set_same (tail_words m ts) (issued s) (issued s + 1) 0 (omega (arith, size)) ∙ omega arith) (omega arith)
+              (λ u l. get_or-set_other (tail_words m ts) (issued s) u (issued s + 1) 0 (λ q. omega arith)));
+          untailed = λ u l. ap (λ (l : List ℕ). get_or l u 0) tails ∙ get_or-set_other (tail_words m ts) (issued s) u (issued s + 1) 0 (λ q. omega arith) ∙ L.untailed u (omega arith);
+        }
 
     pub lent_issue : (y : Solver) → Beside x y ts written → y.issued ≡ x.issued + 1 → y.revision ≡ x.revision → y.kept ≡ x.kept
         → Represents y ks vs written (issue_at s p)
@@ -276,22 +371,24 @@ module _ (x : Solver) (ks vs ts : List ℕ) (s : Session) (L : Represents x ks v
         let size = L.room in
         let lenA = length-set ts (places_from m + x.issued) kind in
         let lenB = length-set a (sites_from m + x.issued) site in
+        let tail = x.issued + 1 in
+        let at = tails_from m + x.issued in
         let places : place_words m written ≡ set (place_words m ts) (length s.places) kind
-        = column_behind m (places_from m) b (slots_from m + x.issued) slot (omega arith) ∙ column_behind m (places_from m) a (sites_from m + x.issued) site (omega arith)
+        = column_behind m (places_from m) placed_words at tail (omega arith) ∙ column_behind m (places_from m) b (slots_from m + x.issued) slot (omega arith) ∙ column_behind m (places_from m) a (sites_from m + x.issued) site (omega arith)
         ∙ column_write m (places_from m) ts _ x.issued kind refl below ∙ ap (λ (j : ℕ). set (place_words m ts) j kind) n in
         let sites : site_words m written ≡ set (site_words m ts) (length s.places) site
-        = column_behind m (sites_from m) b (slots_from m + x.issued) slot (omega arith) ∙ column_write m (sites_from m) a _ x.issued site refl below
+        = column_behind m (sites_from m) placed_words at tail (omega arith) ∙ column_behind m (sites_from m) b (slots_from m + x.issued) slot (omega arith) ∙ column_write m (sites_from m) a _ x.issued site refl below
         ∙ ap (λ (l : List ℕ). set l x.issued site) (column_before m (sites_from m) ts (places_from m + x.issued) kind (omega arith)) ∙ ap (λ (j : ℕ). set (site_words m ts) j site) n in
         let slots : slot_words m written ≡ set (slot_words m ts) (length s.places) slot
-        = column_write m (slots_from m) b _ x.issued slot refl below
+        = column_behind m (slots_from m) placed_words at tail (omega arith) ∙ column_write m (slots_from m) b _ x.issued slot refl below
         ∙ ap (λ (l : List ℕ). set l x.issued slot) (column_before m (slots_from m) a (sites_from m + x.issued) site (omega arith) ∙ column_before m (slots_from m) ts (places_from m + x.issued) kind (omega arith))
         ∙ ap (λ (j : ℕ). set (slot_words m ts) j slot) n in
         let bindings : binding_words m written ≡ binding_words m ts
-        = take-set-le m b (slots_from m + x.issued) slot (omega arith) ∙ take-set-le m a (sites_from m + x.issued) site (omega arith) ∙ take-set-le m ts (places_from m + x.issued) kind (omega arith) in
+        = take-set-le m placed_words at tail (omega arith) ∙ take-set-le m b (slots_from m + x.issued) slot (omega arith) ∙ take-set-le m a (sites_from m + x.issued) site (omega arith) ∙ take-set-le m ts (places_from m + x.issued) kind (omega arith) in
         let requests : request_words m written ≡ request_words m ts
-        = column_behind m m b (slots_from m + x.issued) slot (omega arith) ∙ column_behind m m a (sites_from m + x.issued) site (omega arith) ∙ column_behind m m ts (places_from m + x.issued) kind (omega arith) in
+        = column_behind m m placed_words at tail (omega arith) ∙ column_behind m m b (slots_from m + x.issued) slot (omega arith) ∙ column_behind m m a (sites_from m + x.issued) site (omega arith) ∙ column_behind m m ts (places_from m + x.issued) kind (omega arith) in
         let deferrals : deferral_words m written ≡ deferral_words m ts
-        = column_before m (deferrals_from m) b (slots_from m + x.issued) slot (omega arith) ∙ column_before m (deferrals_from m) a (sites_from m + x.issued) site (omega arith) ∙ column_before m (deferrals_from m) ts (places_from m + x.issued) kind (omega arith) in
+        = column_behind m (deferrals_from m) placed_words at tail (omega arith) ∙ column_before m (deferrals_from m) b (slots_from m + x.issued) slot (omega arith) ∙ column_before m (deferrals_from m) a (sites_from m + x.issued) site (omega arith) ∙ column_before m (deferrals_from m) ts (places_from m + x.issued) kind (omega arith) in
         lent_changed x y ks vs ts written s L B (issue_at s p)
         (record {
           issued = omega arith;
@@ -310,31 +407,36 @@ module _ (x : Solver) (ks vs ts : List ℕ) (s : Session) (L : Represents x ks v
               L.places)));
           unplaced = rw (places, sites, slots) (unplaced_new (place_words m ts) (site_words m ts) (slot_words m ts) kind site slot (length s.places) L.unplaced);
           deferred = fixed_deferred written deferrals;
-          unused = column_before (unused_count m) (unused_from m) b (slots_from m + x.issued) slot (omega arith) ∙ column_before (unused_count m) (unused_from m) a (sites_from m + x.issued) site (omega arith) ∙ column_before (unused_count m) (unused_from m) ts (places_from m + x.issued) kind (omega arith);
+          chains = chained;
+          unused = column_before (unused_count m) (unused_from m) placed_words at tail (omega arith) ∙ column_before (unused_count m) (unused_from m) b (slots_from m + x.issued) slot (omega arith) ∙ column_before (unused_count m) (unused_from m) a (sites_from m + x.issued) site (omega arith) ∙ column_before (unused_count m) (unused_from m) ts (places_from m + x.issued) kind (omega arith);
         })
 
-  -- v is a number variable
+  -- v is a number variable, and the record follows
   module _ (v word : ℕ) (r : Request) (below : v < m) (held : HeldRequest (some r) word) where
     abbrev request_at : List ℕ
-    request_at = set ts (m + v) word
+    request_at = set ts (requests_from m + v) word
 
-    pub lent_request : Represents x ks vs request_at (request s v r)
-    lent_request =
+    pub lent_request : (us : List ℕ) → Near m request_at us → Chained m ks vs us (request s v r) → Represents x ks vs us (request s v r)
+    lent_request us N C =
         let w = word in
         let size = L.room in
-        lent_changed x x ks vs ts request_at s L (beside_set x x ts ts (m + v) w (beside_same x ts) (omega arith)) (request s v r)
+        let places : place_words m us ≡ place_words m ts = near_column N m (places_from m) (omega arith) ∙ column_before m (places_from m) ts (m + v) w (omega arith) in
+        let sites : site_words m us ≡ site_words m ts = near_column N m (sites_from m) (omega arith) ∙ column_before m (sites_from m) ts (m + v) w (omega arith) in
+        let slots : slot_words m us ≡ slot_words m ts = near_column N m (slots_from m) (omega arith) ∙ column_before m (slots_from m) ts (m + v) w (omega arith) in
+        lent_changed x x ks vs ts us s L (beside_near (beside_set x x ts ts (m + v) w (beside_same x ts) (omega arith)) N) (request s v r)
         (record {
           issued = L.issued;
           revision = L.revision;
           kept = L.kept;
           sum = refl;
           most = L.fits.variables;
-          bindings = fixed_bindings request_at (take-set-le m ts (m + v) w (omega arith));
-          requests = λ u. rw (column_write m m ts _ v w refl below) (put_held s.solver.requests (request_words m ts) v word r L.requests (omega (arith, column_length m m ts (omega arith))) held u);
-          places = fixed_places request_at (column_before m (places_from m) ts (m + v) w (omega arith)) (column_before m (sites_from m) ts (m + v) w (omega arith)) (column_before m (slots_from m) ts (m + v) w (omega arith));
-          unplaced = fixed_unplaced request_at (column_before m (places_from m) ts (m + v) w (omega arith)) (column_before m (sites_from m) ts (m + v) w (omega arith)) (column_before m (slots_from m) ts (m + v) w (omega arith));
-          deferred = fixed_deferred request_at (column_before m (deferrals_from m) ts (m + v) w (omega arith));
-          unused = column_before (unused_count m) (unused_from m) ts (m + v) w (omega arith);
+          bindings = fixed_bindings us (near_column N m 0 (omega arith) ∙ take-set-le m ts (m + v) w (omega arith));
+          requests = λ u. rw (near_column N m m (omega arith) ∙ column_write m m ts _ v w refl below) (put_held s.solver.requests (request_words m ts) v word r L.requests (omega (arith, column_length m m ts (omega arith))) held u);
+          places = fixed_places us places sites slots;
+          unplaced = fixed_unplaced us places sites slots;
+          deferred = fixed_deferred us (near_column N m (deferrals_from m) (omega arith) ∙ column_before m (deferrals_from m) ts (m + v) w (omega arith));
+          chains = C;
+          unused = near_unused N ∙ column_before (unused_count m) (unused_from m) ts (m + v) w (omega arith);
         })
 
   -- v is deferred
@@ -364,33 +466,38 @@ module _ (x : Solver) (ks vs ts : List ℕ) (s : Session) (L : Represents x ks v
           places = fixed_places us (column_behind m (places_from m) ts (deferrals_from m + v) 1 (omega arith)) (column_behind m (sites_from m) ts (deferrals_from m + v) 1 (omega arith)) (column_behind m (slots_from m) ts (deferrals_from m + v) 1 (omega arith));
           unplaced = fixed_unplaced us (column_behind m (places_from m) ts (deferrals_from m + v) 1 (omega arith)) (column_behind m (sites_from m) ts (deferrals_from m + v) 1 (omega arith)) (column_behind m (slots_from m) ts (deferrals_from m + v) 1 (omega arith));
           deferred = λ u. ap (λ (l : List ℕ). get_or l u 0) (column_write m (deferrals_from m) ts _ v 1 refl below) ∙ deferred_held u (ℕ_discrete u v);
+          chains =
+              let C = fixed_chains us (column_before m (ends_from m) ts (deferrals_from m + v) 1 (omega arith)) (column_before m (tails_from m) ts (deferrals_from m + v) 1 (omega arith)) in
+              record { ends = C.ends; tails = C.tails; untailed = C.untailed };
           unused = column_before (unused_count m) (unused_from m) ts (deferrals_from m + v) 1 (omega arith);
         })
 
-  -- v is bound to the term of a word
+  -- v is bound to the term of a word, in a table whose record has followed
   module _ (v word : ℕ) (t : Term) (below : v < m) (held : HeldWord ks vs t word) where
-    abbrev binding_at : List ℕ
-    binding_at = set ts v word
-
-    pub lent_bound : (y : Solver) → Beside x y ts binding_at → y.issued ≡ x.issued → y.revision ≡ x.revision + 1 → y.kept ≡ x.kept
-        → Represents y ks vs binding_at (with_solver s (record { bindings = put s.solver.bindings v (some t); requests = s.solver.requests; revision = suc s.solver.revision }))
-    lent_bound y B i r k =
+    pub lent_bound : (y : Solver) (us : List ℕ) → Near m ts us → Beside x y ts (set us v word) → y.issued ≡ x.issued → y.revision ≡ x.revision + 1 → y.kept ≡ x.kept
+        → Chained m ks vs (set us v word) (with_solver s (bound_to s.solver v t s.solver.requests))
+        → Represents y ks vs (set us v word) (with_solver s (bound_to s.solver v t s.solver.requests))
+    lent_bound y us N B i r k C =
         let f = L.fits.variables in
         let size = L.room in
-        lent_changed x y ks vs ts binding_at s L B
-        (with_solver s (record { bindings = put s.solver.bindings v (some t); requests = s.solver.requests; revision = suc s.solver.revision }))
+        let places : place_words m (set us v word) ≡ place_words m ts = column_before m (places_from m) us v word (omega arith) ∙ near_column N m (places_from m) (omega arith) in
+        let sites : site_words m (set us v word) ≡ site_words m ts = column_before m (sites_from m) us v word (omega arith) ∙ near_column N m (sites_from m) (omega arith) in
+        let slots : slot_words m (set us v word) ≡ slot_words m ts = column_before m (slots_from m) us v word (omega arith) ∙ near_column N m (slots_from m) (omega arith) in
+        lent_changed x y ks vs ts (set us v word) s L B (with_solver s (bound_to s.solver v t s.solver.requests))
         (record {
           issued = i ∙ L.issued;
           revision = omega (arith, L.revision);
           kept = k ∙ L.kept;
           sum = refl;
           most = f;
-          bindings = rw (take-set-lt m ts v word below) (bind_held ks vs (binding_words m ts) s.solver.bindings v word t L.bindings (omega (arith, length-take-le m ts (omega arith))) held);
-          requests = fixed_requests binding_at (column_before m m ts v word (omega arith));
-          places = fixed_places binding_at (column_before m (places_from m) ts v word (omega arith)) (column_before m (sites_from m) ts v word (omega arith)) (column_before m (slots_from m) ts v word (omega arith));
-          unplaced = fixed_unplaced binding_at (column_before m (places_from m) ts v word (omega arith)) (column_before m (sites_from m) ts v word (omega arith)) (column_before m (slots_from m) ts v word (omega arith));
-          deferred = fixed_deferred binding_at (column_before m (deferrals_from m) ts v word (omega arith));
-          unused = column_before (unused_count m) (unused_from m) ts v word (omega arith);
+          bindings = rw (take-set-lt m us v word below, near_column N m 0 (omega arith))
+              (bind_held ks vs (binding_words m ts) s.solver.bindings v word t L.bindings (omega (arith, length-take-le m ts (omega arith))) held);
+          requests = fixed_requests (set us v word) (column_before m m us v word (omega arith) ∙ near_column N m m (omega arith));
+          places = fixed_places (set us v word) places sites slots;
+          unplaced = fixed_unplaced (set us v word) places sites slots;
+          deferred = fixed_deferred (set us v word) (column_before m (deferrals_from m) us v word (omega arith) ∙ near_column N m (deferrals_from m) (omega arith));
+          chains = C;
+          unused = column_before (unused_count m) (unused_from m) us v word (omega arith) ∙ near_unused N;
         })
 
 -- ---- the variable of a place
@@ -433,17 +540,17 @@ module _ (x : Solver) (ks vs ts : List ℕ) (s : Session) (L : Represents x ks v
       let f = not_found l in
       rw (f, le-leb x.variables (length s.places) (omega (arith, L.issued))) (record { represents = L; answer = refl; located = f })
 
-  pub issued_new : (kind site slot : ℕ) → HeldPlace p kind site slot → x.issued ≤ v → (n : x.issued < x.variables) → (y : Solver)
-      → Beside x y ts (set (set (set ts (places_from x.variables + x.issued) kind) (sites_from x.variables + x.issued) site) (slots_from x.variables + x.issued) slot)
+  pub issued_new : (kind site slot : ℕ) → HeldPlace p kind site slot → InOrder (issued s) s.solver → x.issued ≤ v → (n : x.issued < x.variables) → (y : Solver)
+      → Beside x y ts (set (set (set (set ts (places_from x.variables + x.issued) kind) (sites_from x.variables + x.issued) site) (slots_from x.variables + x.issued) slot) (tails_from x.variables + x.issued) (x.issued + 1))
       → y.issued ≡ x.issued + 1 → y.revision ≡ x.revision → y.kept ≡ x.kept
-      → Issued y ks vs (set (set (set ts (places_from x.variables + x.issued) kind) (sites_from x.variables + x.issued) site) (slots_from x.variables + x.issued) slot) p
+      → Issued y ks vs (set (set (set (set ts (places_from x.variables + x.issued) kind) (sites_from x.variables + x.issued) site) (slots_from x.variables + x.issued) slot) (tails_from x.variables + x.issued) (x.issued + 1)) p
       (placed (limits_of x) s p) (Some x.issued)
   unfolding placing find
-  issued_new kind site slot h l n y B i r k =
+  issued_new kind site slot h o l n y B i r k =
       let f = not_found l in
       rw (f, lt-leb x.variables (length s.places) (omega (arith, L.issued)))
       (record {
-        represents = lent_issue x ks vs ts s L p kind site slot h n y B i r k;
+        represents = lent_issue x ks vs ts s L p kind site slot h n o y B i r k;
         answer = ap Some L.issued;
         located = (rw (same_self p, L.issued), omega (arith, L.issued));
       })
@@ -533,31 +640,23 @@ module _ (y : Solver) (ks vs us : List ℕ) (lim : Limits) (s : Session) (p : Va
       go none true i = record { represents = i.represents; reply = refl; located = i.located }
       go none false i = clash (let e = i.answer in cc)
 
-  -- and where the place has its variable, whose request is written
-  pub number_replied : (v word : ℕ) (r : Request) → Issued y ks vs us p (placed lim s p) (Some v) → v < y.variables → HeldRequest (some r) word
-      → Replied y ks vs (set us (y.variables + v) word) p (number_at lim s p r (find p s.places) (full lim s))
+  -- and where the place has its variable, whose request is written: what that leaves of the words is told
+  pub number_replied : (v : ℕ) (r : Request) (ws : List ℕ) → Issued y ks vs us p (placed lim s p) (Some v)
+      → Coming (issued s) s.solver → ((s' : Session) → Coming (issued s') s'.solver → Represents y ks vs us s' → Represents y ks vs ws (request s' v r))
+      → Replied y ks vs ws p (number_at lim s p r (find p s.places) (full lim s))
       (resolved_reply (number_at lim s p r (find p s.places) (full lim s)).session.solver) (Some v)
   unfolding placing number_at
-  number_replied v word r j l held = go (find p s.places) (full lim s) j
+  number_replied v r ws j C there = go (find p s.places) (full lim s) j
     where
-      there : (s' : Session) → Represents y ks vs us s' → Represents y ks vs (set us (y.variables + v) word) (request s' v r)
-      there s' L = lent_request y ks vs us s' L v word r l held
-
       go : (o : Option ℕ) (b : Bool) → Issued y ks vs us p (placing s p o b) (Some v)
-          → Replied y ks vs (set us (y.variables + v) word) p (number_at lim s p r o b) (resolved_reply (number_at lim s p r o b).session.solver) (Some v)
+          → Replied y ks vs ws p (number_at lim s p r o b) (resolved_reply (number_at lim s p r o b).session.solver) (Some v)
       go (some w) b i =
           let e : v ≡ w = let q = i.answer in cc in
-          rw (← e) (record { represents = there s i.represents; reply = refl; located = i.located })
+          rw (← e) (record { represents = there s C i.represents; reply = refl; located = i.located })
       go none true i = clash (let e = i.answer in cc)
       go none false i =
           let e : v ≡ issued s = let q = i.answer in cc in
-          rw (← e) (record { represents = there (issue_at s p) i.represents; reply = refl; located = i.located })
-
-  -- the same at an index that is that word's
-  pub number_written : (a : rust.Option ℕ) (v word j : ℕ) (r : Request) → a ≡ Some v → Issued y ks vs us p (placed lim s p) a → v < y.variables → HeldRequest (some r) word → j ≡ y.variables + v
-      → Replied y ks vs (set us j word) p (number_at lim s p r (find p s.places) (full lim s))
-      (resolved_reply (number_at lim s p r (find p s.places) (full lim s)).session.solver) (Some v)
-  number_written a v word j r e i l held f = rw f (number_replied v word r (subst (λ (b : rust.Option ℕ). Issued y ks vs us p (placed lim s p) b) e i) l held)
+          rw (← e) (record { represents = there (issue_at s p) (coming_issued (issued s) s.solver C) i.represents; reply = refl; located = i.located })
 
   pub number_none : (a : rust.Option ℕ) (r : Request) → a ≡ None → Issued y ks vs us p (placed lim s p) a
       → Replied y ks vs us p (number_at lim s p r (find p s.places) (full lim s)) (resolved_reply (number_at lim s p r (find p s.places) (full lim s)).session.solver) None
@@ -567,19 +666,6 @@ module _ (y : Solver) (ks vs us : List ℕ) (lim : Limits) (s : Session) (p : Va
 
 pub request_near : (m : ℕ) (ts : List ℕ) (v : ℕ) → v < m → get_or ts (m + v) 0 ≡ get_or (request_words m ts) v 0
 request_near m ts v l = sym (column_read m m ts _ v refl l)
-
-module _ (m v kind val : ℕ) (ts : List ℕ) where
-  pub handed_on : (word : ℕ) → (get_or ts (m + v) 0 ≡ 0 → ⊥) → kind ≡ 1 → val < m → word ≡ joined_word (get_or ts (m + v) 0) (get_or ts (m + val) 0)
-      → Handed m v kind val ts (set ts (m + val) word)
-  handed_on word n k l e =
-      record {
-        none = λ e. absurd (n e);
-        node = λ e. absurd (e k);
-        far = λ e. absurd (omega arith);
-        on = λ _ _ _. ap (set ts (m + val)) e;
-        size = length-set ts (m + val) word;
-        rest = drop-set-lt (lasting_words m) ts (m + val) word (omega arith);
-      }
 
 -- ---- words that defaults go by
 

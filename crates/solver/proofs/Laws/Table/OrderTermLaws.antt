@@ -17,7 +17,8 @@ use Rattle.solver.specs.Constrain.{resolve, resolved}
 use Rattle.solver.specs.Session.{Session, issued, keep}
 use Rattle.solver.specs.Invariant.{InOrder}
 use Rattle.solver.specs.Words.Bindings.{defaults, HeldBindings}
-use Rattle.solver.specs.Words.SessionRepresentation.{Represents, binding_words}
+use Rattle.solver.specs.Words.ChainRecord.{chain_ends}
+use Rattle.solver.specs.Words.SessionRepresentation.{end_words, Represents, binding_words}
 use Rattle.solver.specs.Words.ConstrainContract.{Known, Scratch}
 use Rattle.solver.specs.Words.OrderTerms.{Behind, Poses, PosesPair, Asked, Starts}
 use Rattle.solver.specs.Words.TableLayout.{lasting_words}
@@ -35,6 +36,10 @@ pub record Fitted (x : Solver) (ks vs ts : List ℕ) (z : Session) : Type 0 wher
 module _ {x : Solver} {ks vs ts : List ℕ} {z : Session} (B : Behind x ks vs ts z) where
   pub behind_longer : Longer (take x.top ks) (take x.top vs) ks vs
   behind_longer = longer_take ks vs x.top B.inside
+
+  -- and so are the ends of chains
+  pub behind_ends : HeldBindings ks vs (end_words x.variables ts) (chain_ends z.solver.revision z.solver.bindings)
+  behind_ends = bindings_longer behind_longer B.short (end_words x.variables ts) (chain_ends z.solver.revision z.solver.bindings) B.represents.ends
 
   pub behind_bindings : HeldBindings ks vs (binding_words x.variables ts) z.solver.bindings
   behind_bindings = bindings_longer behind_longer B.short (binding_words x.variables ts) z.solver.bindings B.represents.bindings

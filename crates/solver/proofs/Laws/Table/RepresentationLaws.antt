@@ -12,11 +12,13 @@ use Rattle.terms.specs.Result.{pick}
 use Rattle.terms.specs.Words.Tokens.{Item, item, spell, toks}
 use Rattle.terms.specs.Term.{Term, Parts, var, node, end, num, sub, items, part_items, size, sizes, Held}
 use Rattle.solver.specs.declared.Solver.{Solver}
-use Rattle.solver.specs.Session.{Session, fresh, keep}
+use Rattle.solver.specs.Session.{Session, issued, fresh, keep}
 use Rattle.solver.specs.Words.Bindings.{defaults, HeldWord, placed, coded, HeldBinding, HeldBindings}
 use Rattle.solver.specs.Words.Worklist.{Zero}
-use Rattle.solver.specs.Words.SessionRepresentation.{binding_words, HeldRequest, begins, Represents}
-use Rattle.solver.specs.Words.TableLayout.{places_from, sites_from, slots_from, deferrals_from, unused_from, unused_count, lasting_words}
+use Rattle.solver.specs.Words.SessionRepresentation.{binding_words, end_words, HeldRequest, begins, Represents}
+use Rattle.solver.specs.Words.ChainRecord.{chain_ends, HeldTails}
+use Rattle.solver.proofs.Laws.Definition.ChainRecordLaws.{ends_none}
+use Rattle.solver.specs.Words.TableLayout.{places_from, sites_from, slots_from, deferrals_from, ends_from, tails_from, unused_from, unused_count, lasting_words}
 use Rattle.solver.proofs.Laws.Table.ColumnLaws.{column_same, column_zero}
 
 -- ---- the tokens that begin a term
@@ -135,6 +137,9 @@ module _ {ks₀ vs₀ ks vs : List ℕ} (G : Longer ks₀ vs₀ ks vs) where
         places = L.places;
         unplaced = L.unplaced;
         deferred = L.deferred;
+        ends = bindings_longer short (end_words x.variables ts) (chain_ends s.solver.revision s.solver.bindings) L.ends;
+        tails = L.tails;
+        untailed = L.untailed;
         unused = L.unused;
         begun = omega (arith, b, L.begun);
       }
@@ -159,6 +164,9 @@ lent_scratch x ks vs ts ts' s L e r =
       places = rw (← (same (places_from m) (omega arith)), ← (same (sites_from m) (omega arith)), ← (same (slots_from m) (omega arith))) L.places;
       unplaced = rw (← (same (places_from m) (omega arith)), ← (same (sites_from m) (omega arith)), ← (same (slots_from m) (omega arith))) L.unplaced;
       deferred = λ v. ap (λ (l : List ℕ). get_or l v 0) (sym (same (deferrals_from m) (omega arith))) ∙ L.deferred v;
+      ends = subst (λ (l : List ℕ). HeldBindings ks vs l (chain_ends s.solver.revision s.solver.bindings)) (same (ends_from m) (omega arith)) L.ends;
+      tails = subst (λ (l : List ℕ). HeldTails s.solver (issued s) l) (same (tails_from m) (omega arith)) L.tails;
+      untailed = λ v h. ap (λ (l : List ℕ). get_or l v 0) (sym (same (tails_from m) (omega arith))) ∙ L.untailed v h;
       unused = λ v. ap (λ (l : List ℕ). get_or l v 0) (sym (column_same (unused_count m) (unused_from m) (lasting_words m) ts ts' e (omega arith))) ∙ L.unused v;
       begun = L.begun;
     }
@@ -178,7 +186,7 @@ begins_none (k ∷ ks) e = absurd (omega arith)
 
 -- nothing issued, bound or kept: no tokens, and the table is all 0
 pub lent_fresh : (x : Solver) (ks vs ts : List ℕ) → x.issued ≡ 0 → x.revision ≡ 0 → x.kept ≡ 0 → x.top ≡ 0
-    → length ks ≡ 0 → length vs ≡ 0 → x.variables < 2 ^ 32 → lasting_words x.variables ≤ length ts → Zero ts
+    → length ks ≡ 0 → length vs ≡ 0 → x.variables < 65536 → lasting_words x.variables ≤ length ts → Zero ts
     → Represents x ks vs ts fresh
 lent_fresh x ks vs ts i r k t lk lv narrow room z =
     record {
@@ -196,6 +204,12 @@ lent_fresh x ks vs ts i r k t lk lv narrow room z =
       places = tt;
       unplaced = λ v _. (column_zero x.variables (places_from x.variables) ts z v, column_zero x.variables (sites_from x.variables) ts z v, column_zero x.variables (slots_from x.variables) ts z v);
       deferred = λ v. column_zero x.variables (deferrals_from x.variables) ts z v;
+      ends = record {
+        short = omega arith;
+        words = λ v. subst (λ (o : Option Term). HeldBinding ks vs o (get_or (end_words x.variables ts) v 0)) (sym (ends_none 0 (λ u. none) v refl)) (column_zero x.variables (ends_from x.variables) ts z v);
+      };
+      tails = λ v h. absurd (omega arith);
+      untailed = λ v _. column_zero x.variables (tails_from x.variables) ts z v;
       unused = λ v. column_zero (unused_count x.variables) (unused_from x.variables) ts z v;
       begun = begins_none ks lk;
     }

@@ -49,7 +49,7 @@ unused_zero m ts u z v = get_or-drop (unused_from m) ts v 0 ∙ go (dec_lt v (un
 
 -- ---- a fresh session
 
-pub holds_fresh : (limits : Limits) (a b ts : List ℕ) → Zero a → Zero b → Zero ts → limits.variables < 2 ^ 32 → lasting_words limits.variables ≤ length ts
+pub holds_fresh : (limits : Limits) (a b ts : List ℕ) → Zero a → Zero b → Zero ts → limits.variables < 65536 → lasting_words limits.variables ≤ length ts
     → Holds (counters limits) a b ts fresh
 holds_fresh limits a b ts za zb zt narrow room =
     record {

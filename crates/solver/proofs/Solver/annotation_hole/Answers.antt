@@ -11,4 +11,4 @@ unfolding order
 returns-clause-held c =
     let a = c.args in
     let i = c.issue.ensures in
-    λ ks vs s L. hole_replied _ ks vs _ (limits_of a.self) s (gap a.site) _ (i.held ks vs s _ (place_held (Hole a.site) c.from.ensures) L)
+    λ ks vs s o L. hole_replied _ ks vs _ (limits_of a.self) s (gap a.site) _ (i.held ks vs s _ (place_held (Hole a.site) c.from.ensures) o L)

@@ -1,4 +1,6 @@
 -- `Solver::revision`.
+
+use Rattle.solver.proofs.Laws.Table.ChainTableLaws.{past_column}
 use mathlib.Core.Path.{sym, ap}
 use Rattle.solver.specs.Orders.{order, count}
 use Rattle.solver.proofs.Solver.revision.Goals as goal

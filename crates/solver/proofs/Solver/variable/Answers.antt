@@ -11,4 +11,4 @@ unfolding order
 returns-clause-held c =
     let a = c.args in
     let i = c.issue.ensures in
-    λ ks vs s L. variable_replied _ ks vs _ (limits_of a.self) s (at a.site a.slot) _ (i.held ks vs s _ (place_held (Slot a.site a.slot) c.from.ensures) L)
+    λ ks vs s o L. variable_replied _ ks vs _ (limits_of a.self) s (at a.site a.slot) _ (i.held ks vs s _ (place_held (Slot a.site a.slot) c.from.ensures) o L)

@@ -12,15 +12,15 @@ returns-in-At-At-clause-terms c =
     let f = c.shallow_resolve-a.ensures in
     let g = c.shallow_resolve-b.ensures in
     λ b t u e ht hu fa.
-    c.union_places.ensures.terms _ _ t u (steady_standing e.steady e.topped) (rw c.in-At-At.is-0 at (f.term t b ht e.held)) (rw c.in-At-At.is-1 at (g.term u b hu e.held)) fa
+    c.union_places.ensures.terms _ _ t u (steady_standing e.steady e.topped) (rw c.in-At-At.is-0 at (f.term t b c.args.bindings.now.most ht e.held)) (rw c.in-At-At.is-1 at (g.term u b c.args.bindings.now.most hu e.held)) fa
 
 pub returns-in-At-Default-clause-terms : goal.returns-in-At-Default-clause-terms
 returns-in-At-Default-clause-terms c =
     let f = c.shallow_resolve-a.ensures in
     let g = c.shallow_resolve-b.ensures in
     λ b t u e ht hu fa.
-    let is = c.code_at.ensures _ (rw c.in-At-Default.is-0 at (f.term t b ht e.held)) in
-    told_code_right _ _ (steady_standing e.steady e.topped) _ _ _ fa t u c.in-At-Default.c.code _ (rw c.in-At-Default.is-1 at (g.term u b hu e.held)).1
+    let is = c.code_at.ensures _ (rw c.in-At-Default.is-0 at (f.term t b c.args.bindings.now.most ht e.held)) in
+    told_code_right _ _ (steady_standing e.steady e.topped) _ _ _ fa t u c.in-At-Default.c.code _ (rw c.in-At-Default.is-1 at (g.term u b c.args.bindings.now.most hu e.held)).1
     (equal_builtin c.in-At-Default.c.code _ _ is _ c.eq.ensures) (builtin_equal c.in-At-Default.c.code _ _ is _ c.eq.ensures)
 
 pub returns-in-Default-At-clause-terms : goal.returns-in-Default-At-clause-terms
@@ -28,8 +28,8 @@ returns-in-Default-At-clause-terms c =
     let f = c.shallow_resolve-a.ensures in
     let g = c.shallow_resolve-b.ensures in
     λ b t u e ht hu fa.
-    let is = c.code_at-in-Default-At.ensures _ (rw c.in-Default-At.is-1 at (g.term u b hu e.held)) in
-    told_code_left _ _ (steady_standing e.steady e.topped) _ _ _ fa t u c.in-Default-At.c.code _ (rw c.in-Default-At.is-0 at (f.term t b ht e.held)).1
+    let is = c.code_at-in-Default-At.ensures _ (rw c.in-Default-At.is-1 at (g.term u b c.args.bindings.now.most hu e.held)) in
+    told_code_left _ _ (steady_standing e.steady e.topped) _ _ _ fa t u c.in-Default-At.c.code _ (rw c.in-Default-At.is-0 at (f.term t b c.args.bindings.now.most ht e.held)).1
     (equal_builtin c.in-Default-At.c.code _ _ is _ c.eq-in-Default-At.ensures) (builtin_equal c.in-Default-At.c.code _ _ is _ c.eq-in-Default-At.ensures)
 
 pub returns-in-Default-Default-clause-terms : goal.returns-in-Default-Default-clause-terms
@@ -37,7 +37,7 @@ returns-in-Default-Default-clause-terms c =
     let f = c.shallow_resolve-a.ensures in
     let g = c.shallow_resolve-b.ensures in
     λ b t u e ht hu fa.
-    let ht' = (rw c.in-Default-Default.is-0 at (f.term t b ht e.held)).1 in
-    let hu' = (rw c.in-Default-Default.is-1 at (g.term u b hu e.held)).1 in
+    let ht' = (rw c.in-Default-Default.is-0 at (f.term t b c.args.bindings.now.most ht e.held)).1 in
+    let hu' = (rw c.in-Default-Default.is-1 at (g.term u b c.args.bindings.now.most hu e.held)).1 in
     told_code_right _ _ (steady_standing e.steady e.topped) _ _ _ fa t u c.in-Default-Default.d.code _ hu'
     (λ r. ht' ∙ ap builtin (eqb-true _ _ r)) (λ r. eq-eqb _ _ (builtin_same (sym ht' ∙ r)))
