@@ -53,8 +53,7 @@ fn main() {
         let Some(size) = read_sheet(&mut sheet) else {
             break;
         };
-        let part = sheet.get(..size).unwrap_or(&[]);
-        areas.serve(part, &mut tally);
+        areas.serve(&sheet, size, &mut tally);
         tally.sheets = tally.sheets.saturating_add(1);
     }
     write_line("sheets", tally.sheets);

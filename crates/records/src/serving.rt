@@ -111,10 +111,8 @@ impl Areas {
         }
     }
 
-    // Serves the orders of a sheet in a fresh session.
-    pub fn serve(&mut self, s: &[u8], tally: &mut Tally)
-        requires { length s.now ≤ 32768 }
-    {
+    // Serves the orders of a sheet, the first `size` bytes, in a fresh session.
+    pub fn serve(&mut self, sheet: &[u8; ROOM], size: usize, tally: &mut Tally) {
         let limits = Limits {
             variables: VARIABLES,
             nodes: 2048,
@@ -129,7 +127,7 @@ impl Areas {
         );
         serve_orders(
             x,
-            s,
+            sheet.get(..size).unwrap_or(&[]),
             &mut self.out,
             &mut self.a,
             &mut self.b,
