@@ -1,7 +1,7 @@
 -- The orders as the code has them: the row of each in the table, and which order has a number.
-use Rattle.std.specs.Prelude.{Ok, Err, ◌≡◌, ℕ}
+use Rattle.std.specs.Prelude.{Ok, Err, ◌≡◌, Bool, true, false, List, [], ◌∷◌, ◌⊎◌, ℕ}
 use Rattle.std.specs.declared.result.Result as rust
-use Rattle.std.proofs.Math.Option.{none, some}
+use Rattle.std.proofs.Math.Option.{Option, none, some}
 use Rattle.solver.specs.TermTypes.{Refusal, Code}
 use Rattle.solver.specs.declared.Access.TheVariants.{Ignored, Compared}
 use Rattle.sheet.specs.declared.OrderKind.{OrderKind}
@@ -11,7 +11,7 @@ use Rattle.sheet.specs.declared.TermlessKind.TheVariants as plain
 use Rattle.sheet.specs.declared.Operation as declared
 use Rattle.sheet.specs.declared.Operation.TheVariants as asked
 use Rattle.sheet.specs.OrderTable as session
-use Rattle.sheet.specs.OrderTable.{Row, row_in}
+use Rattle.sheet.specs.OrderTable.{Act, tells, answers, Row, row_in}
 use Rattle.sheet.specs.Operations as operations
 use Rattle.sheet.specs.Sheet.{table}
 
@@ -50,3 +50,27 @@ kind_row (Operation k) = operation_row k
 abbrev pub KindTold : ℕ → rust.Result OrderKind Refusal → Type 0
 KindTold n (Ok k) = row_in table n ≡ some (kind_row k)
 KindTold n (Err c) = (row_in table n ≡ none) × (c ≡ Code)
+
+-- ---- the numbers of a class
+
+-- whether an order leaves the session
+abbrev pub answers_by : Act → Bool
+answers_by (tells f) = false
+answers_by (answers f) = true
+
+abbrev pub is_operation : Option Row → Bool
+is_operation none = false
+is_operation (some r) = answers_by r.act
+
+-- one of some numbers
+abbrev pub Among : List ℕ → ℕ → Type 0
+Among [] k = ⊥
+Among (n ∷ ns) k = (k ≡ n) ⊎ Among ns k
+
+-- the orders of the session that have no tokens
+abbrev pub plain_orders : List ℕ
+plain_orders = 0 ∷ 1 ∷ 2 ∷ 6 ∷ 7 ∷ 8 ∷ 21 ∷ []
+
+abbrev pub numbers_of : List Row → List ℕ
+numbers_of [] = []
+numbers_of (r ∷ rs) = r.number ∷ numbers_of rs
