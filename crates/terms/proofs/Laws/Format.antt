@@ -13,6 +13,7 @@
 --                     bytes are exactly those that were taken
 --   RoundTrip         a formed term's bytes are read back as that term, whatever stands before and after them
 --   WriteLaws         laws of writing
+--   ReaderLaws        what the term reader is asked for and does, as one request
 --   KeepTermLaws      what is offered of reading, from what the reading functions leave
 --   ListLaws          lists read record by record and kept as rows
 --   ListReaderLaws    the term reader goes from record to record
@@ -31,6 +32,7 @@ pub mod RoomLaws
 pub mod Sound
 pub mod RoundTrip
 pub mod WriteLaws
+pub mod ReaderLaws
 pub mod KeepTermLaws
 pub mod ListLaws
 pub mod ListReaderLaws

@@ -133,16 +133,26 @@ absent found ps n p e None h false k = absurd (cc)
 
 -- ---- entering
 
-pub entered_most : (q : Question) (k : ℕ) → (q ≡ IsNever → ⊥) → (q ≡ IsInteger → ⊥) → (q ≡ ContainsUnknown → ⊥) → true ≡ entered_by (number_of_question q) k
+pub entered_most : (q k : ℕ) → 2 ≤ q → (q ≡ 4 → ⊥) → true ≡ entered_by q k
 unfolding entered_by
-entered_most IsNever k a b d = absurd (a refl)
-entered_most IsInteger k a b d = absurd (b refl)
-entered_most IsConcrete k a b d = refl
-entered_most IsUnresolved k a b d = refl
-entered_most ContainsUnknown k a b d = absurd (d refl)
-entered_most ContainsSelfType k a b d = refl
-entered_most ContainsProjection k a b d = refl
-entered_most IsResolvedIn k a b d = refl
+entered_most zero k h d = absurd (omega arith)
+entered_most (suc zero) k h d = absurd (omega arith)
+entered_most (suc (suc zero)) k h d = refl
+entered_most (suc (suc (suc zero))) k h d = refl
+entered_most (suc (suc (suc (suc zero)))) k h d = absurd (d refl)
+entered_most (suc (suc (suc (suc (suc q))))) k h d = refl
+
+-- the same of a question
+pub entered_question : (q : Question) (k : ℕ) → (q ≡ IsNever → ⊥) → (q ≡ IsInteger → ⊥) → (q ≡ ContainsUnknown → ⊥) → true ≡ entered_by (number_of_question q) k
+unfolding entered_by
+entered_question IsNever k a b d = absurd (a refl)
+entered_question IsInteger k a b d = absurd (b refl)
+entered_question IsConcrete k a b d = refl
+entered_question IsUnresolved k a b d = refl
+entered_question ContainsUnknown k a b d = absurd (d refl)
+entered_question ContainsSelfType k a b d = refl
+entered_question ContainsProjection k a b d = refl
+entered_question IsResolvedIn k a b d = refl
 
 -- ---- the numbers after a head
 

@@ -65,7 +65,7 @@ access_tag k h = go (among_three (suc (suc k)) 2 12 13 h)
     go (inr (inl e)) = inr (inl (omega arith))
     go (inr (inr e)) = inr (inr (omega arith))
 
-without_access : (t u : Term) → among (head_kind t) (2 ∷ 12 ∷ 13 ∷ []) ≡ false → false ≡ can_weaken_to t u
+pub without_access : (t u : Term) → among (head_kind t) (2 ∷ 12 ∷ 13 ∷ []) ≡ false → false ≡ can_weaken_to t u
 unfolding can_weaken_to collection_access tag head_kind among
 without_access (var v) u h = refl
 without_access (node k ps) u h =
@@ -107,7 +107,7 @@ module _ (k j : ℕ) (ps qs : Parts) (d : k ≡ j → ⊥) where
       go (no a) (yes b) (no c) (no e) = rw (not_collection j c e) (ap (λ (x : Bool). x && agrees (pick (among k (0 ∷ 10 ∷ 11 ∷ [])) (some (node k (with_first 0 ps))) none) (node j qs)) (and-false (is (pick (among k (10 ∷ 11 ∷ [])) (some (first (node k ps))) none) 1)))
       go (no a) (no b) c e = rw (not_collection k a b)
 
-kinds_apart : (t u : Term) → (head_kind t ≡ head_kind u → ⊥) → false ≡ can_weaken_to t u
+pub kinds_apart : (t u : Term) → (head_kind t ≡ head_kind u → ⊥) → false ≡ can_weaken_to t u
 unfolding can_weaken_to collection_access tag head_kind among
 kinds_apart (var v) u d = refl
 kinds_apart (node k ps) (var w) d =
@@ -142,7 +142,7 @@ row_marked k end w f = let c = coded k w in absurd (some_done (shape.code 2 c.0)
 row_marked k (num m ps) w f = (m, ps, refl, f.1)
 row_marked k (sub t ps) w f = let c = coded k w in absurd (subst (λ (r : Shape). TakesTerm r) c.1 f.0)
 
-marked : (t : Term) → Formed t → among (head_kind t) (2 ∷ 12 ∷ 13 ∷ []) ≡ true → Marked t
+pub marked : (t : Term) → Formed t → among (head_kind t) (2 ∷ 12 ∷ 13 ∷ []) ≡ true → Marked t
 unfolding Formed head_kind among
 marked (var v) f h = never_true h
 marked (node k ps) f h =
@@ -158,16 +158,16 @@ module _ (ks vs : List ℕ) (p n : ℕ) (t : Term) (h : Held ks vs p t) (m : Mar
   unfolding items
   marked_length = e ∙ ap (λ (x : Term). length (items x)) m.is
 
-  marked_long : n < 2 → ⊥
+  pub marked_long : n < 2 → ⊥
   marked_long l = omega (arith, marked_length)
 
   behind : HeldParts ks vs (p + 1) (p + length (items (node m.tag (num m.mark m.rest)))) (num m.mark m.rest)
   behind = held_node ks vs p m.tag (num m.mark m.rest) here
 
-  mark_at : get_or vs (p + 1) 0 ≡ m.mark
+  pub mark_at : get_or vs (p + 1) 0 ≡ m.mark
   mark_at = (held_num ks vs (p + 1) _ m.mark m.rest behind).1
 
-  rest_at : HeldParts ks vs (p + 2) (p + n) m.rest
+  pub rest_at : HeldParts ks vs (p + 2) (p + n) m.rest
   rest_at =
       let r = (held_num ks vs (p + 1) _ m.mark m.rest behind).2 in
       let a : p + 1 + 1 ≡ p + 2 = omega arith in
@@ -184,17 +184,17 @@ module _ (t u : Term) (a : Marked t) (b : Marked u) (e : head_kind t ≡ head_ki
       ∙ ap (λ (x : Term). can_weaken_to (node a.tag (num a.mark a.rest)) x) (b.is ∙ ap (λ (k : ℕ). node k (num b.mark b.rest)) (sym same_tag))
       ∙ same_kind a.tag a.mark b.mark a.rest b.rest a.which
 
-  unmutable : (a.mark ≡ 1 → ⊥) → false ≡ can_weaken_to t u
+  pub unmutable : (a.mark ≡ 1 → ⊥) → false ≡ can_weaken_to t u
   unmutable d = sym (weakened ∙ rw (ne_eqb a.mark 1 d))
 
-  unshared : a.mark ≡ 1 → (b.mark ≡ 0 → ⊥) → false ≡ can_weaken_to t u
+  pub unshared : a.mark ≡ 1 → (b.mark ≡ 0 → ⊥) → false ≡ can_weaken_to t u
   unshared p d = sym (weakened ∙ rw (eq-eqb a.mark 1 p, ne_eqb b.mark 0 d))
 
-  rests : a.mark ≡ 1 → b.mark ≡ 0 → can_weaken_to t u ≡ not (rows_conflict a.rest b.rest)
+  pub rests : a.mark ≡ 1 → b.mark ≡ 0 → can_weaken_to t u ≡ not (rows_conflict a.rest b.rest)
   rests p q = weakened ∙ rw (eq-eqb a.mark 1 p, eq-eqb b.mark 0 q)
 
   -- what stands after the marks, as two rows
-  rest_rows : (ks vs : List ℕ) (i ae j be : ℕ) → HeldParts ks vs i ae a.rest → HeldParts ks vs j be b.rest → Rows ks vs i ae j be (rows_conflict a.rest b.rest)
+  pub rest_rows : (ks vs : List ℕ) (i ae j be : ℕ) → HeldParts ks vs i ae a.rest → HeldParts ks vs j be b.rest → Rows ks vs i ae j be (rows_conflict a.rest b.rest)
   unfolding after_number
   rest_rows ks vs i ae j be hl hr =
       let c = coded a.tag a.which in

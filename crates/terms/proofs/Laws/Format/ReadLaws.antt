@@ -43,7 +43,7 @@ module _ {s : List ℕ} {whole rest : Result Parts} {p q : Place} {d e : Area} w
   so_far_done x f r y = rw x.found (after_done s p d e x.parts q x.wrote f rest r y)
 
   -- a further row ps
-  so_far_more : (ps : Parts) {f : Area} {u : Place} → SoFar s whole (after ps rest) p d e q → Wrote s q e f (part_items ps) (sizes ps) u → SoFar s whole rest p d f u
+  pub so_far_more : (ps : Parts) {f : Area} {u : Place} → SoFar s whole (after ps rest) p d e q → Wrote s q e f (part_items ps) (sizes ps) u → SoFar s whole rest p d f u
   so_far_more ps {f} {u} x w = record {
     parts = x.parts +++ ps;
     found = x.found ∙ sym (after_after x.parts ps rest);
@@ -99,11 +99,11 @@ module _ {s : List ℕ} (t : Parser Term) (r : Shape) {whole : Result Parts} {p 
   module _ (b : Sort) (x : SoFar s whole (row s t (shape.number b r) q.at) p d e q) where
     pub number_read : {f : Area} {v : ℕ} {u : Place} → ValueDone (ceiling b) s (rising s (ceiling b) 0 q.at) q e f (Valued v u) → SoFar s whole (row s t r u.at) p d f u
     unfolding row
-    number_read {f} {v} {u} y = into_read (ceiling b) (number s (ceiling b) q.at) (λ v. row s t r) x (value_plain s q e f (ceiling b) (Valued v u) y)
+    number_read {f} {v} {u} y = into_read (ceiling b) (number s (ceiling b) q.at) (λ v. row s t r) x (value_plain s q e f (ceiling b) (ceiling b) (Valued v u) y)
 
     pub number_refused : (f : Area) {c : ℕ} → ValueDone (ceiling b) s (rising s (ceiling b) 0 q.at) q e f (Unvalued c) → PartsDone s whole p d f (Stopped c)
     unfolding row
-    number_refused f {c} y = into_refused (ceiling b) (number s (ceiling b) q.at) (λ v. row s t r) x f (value_plain s q e f (ceiling b) (Unvalued c) y)
+    number_refused f {c} y = into_refused (ceiling b) (number s (ceiling b) q.at) (λ v. row s t r) x f (value_plain s q e f (ceiling b) (ceiling b) (Unvalued c) y)
 
   -- a term
   module _ (x : SoFar s whole (row s t (shape.term r) q.at) p d e q) where
@@ -128,11 +128,11 @@ module _ {s : List ℕ} (t : Parser Term) (r : Shape) {whole : Result Parts} {p 
     pub count_read : {f : Area} {n : ℕ} {u : Place} → ValueDone (ceiling ordinary) s (rising s (ceiling ordinary) 0 q.at) q e f (Valued n u)
         → SoFar s whole (seq (many s t n u.at) (row s t r)) p d f u
     unfolding row
-    count_read {f} {n} {u} y = into_read (ceiling ordinary) (count s q.at) (λ n m. seq (many s t n m) (row s t r)) x (value_plain s q e f (ceiling ordinary) (Valued n u) y)
+    count_read {f} {n} {u} y = into_read (ceiling ordinary) (count s q.at) (λ n m. seq (many s t n m) (row s t r)) x (value_plain s q e f (ceiling ordinary) (ceiling ordinary) (Valued n u) y)
 
     pub count_refused : (f : Area) {c : ℕ} → ValueDone (ceiling ordinary) s (rising s (ceiling ordinary) 0 q.at) q e f (Unvalued c) → PartsDone s whole p d f (Stopped c)
     unfolding row
-    count_refused f {c} y = into_refused (ceiling ordinary) (count s q.at) (λ n m. seq (many s t n m) (row s t r)) x f (value_plain s q e f (ceiling ordinary) (Unvalued c) y)
+    count_refused f {c} y = into_refused (ceiling ordinary) (count s q.at) (λ n m. seq (many s t n m) (row s t r)) x f (value_plain s q e f (ceiling ordinary) (ceiling ordinary) (Unvalued c) y)
 
   -- as many terms as were counted
   module _ (n : ℕ) (x : SoFar s whole (seq (many s t n q.at) (row s t r)) p d e q) where
@@ -156,11 +156,11 @@ module _ {s : List ℕ} (t : Parser Term) {whole : Result Parts} {p q : Place} {
     pub members_read : {f : Area} {n : ℕ} {u : Place} → ValueDone (ceiling ordinary) s (rising s (ceiling ordinary) 0 q.at) q e f (Valued n u) → SoFar s whole (pairs s t n 0 u.at) p d f u
     unfolding row
     members_read {f} {n} {u} y =
-        rw (seq_end (pairs s t n 0 u.at)) at (into_read (ceiling ordinary) (count s q.at) (λ n m. seq (pairs s t n 0 m) (row s t shape.done)) x (value_plain s q e f (ceiling ordinary) (Valued n u) y))
+        rw (seq_end (pairs s t n 0 u.at)) at (into_read (ceiling ordinary) (count s q.at) (λ n m. seq (pairs s t n 0 m) (row s t shape.done)) x (value_plain s q e f (ceiling ordinary) (ceiling ordinary) (Valued n u) y))
 
     pub members_refused : (f : Area) {c : ℕ} → ValueDone (ceiling ordinary) s (rising s (ceiling ordinary) 0 q.at) q e f (Unvalued c) → PartsDone s whole p d f (Stopped c)
     unfolding row
-    members_refused f {c} y = into_refused (ceiling ordinary) (count s q.at) (λ n m. seq (pairs s t n 0 m) (row s t shape.done)) x f (value_plain s q e f (ceiling ordinary) (Unvalued c) y)
+    members_refused f {c} y = into_refused (ceiling ordinary) (count s q.at) (λ n m. seq (pairs s t n 0 m) (row s t shape.done)) x f (value_plain s q e f (ceiling ordinary) (ceiling ordinary) (Unvalued c) y)
 
 -- ---- the loops
 
@@ -241,10 +241,10 @@ module _ {s : List ℕ} (k : Parser Parts) {whole : Result Parts} {p q : Place} 
       there = rw (← one_seq (number s most q.at) k) (rw z at x)
 
       pub numbered_read : {f : Area} {v : ℕ} {u : Place} → ValueDone most s (rising s most 0 q.at) q e f (Valued v u) → SoFar s whole (k u.at) p d f u
-      numbered_read {f} {v} {u} y = into_read most (number s most q.at) (λ v. k) there (value_plain s q e f most (Valued v u) y)
+      numbered_read {f} {v} {u} y = into_read most (number s most q.at) (λ v. k) there (value_plain s q e f most most (Valued v u) y)
 
       pub numbered_refused : (f : Area) {c : ℕ} → ValueDone most s (rising s most 0 q.at) q e f (Unvalued c) → PartsDone s whole p d f (Stopped c)
-      numbered_refused f {c} y = into_refused most (number s most q.at) (λ v. k) there f (value_plain s q e f most (Unvalued c) y)
+      numbered_refused f {c} y = into_refused most (number s most q.at) (λ v. k) there f (value_plain s q e f most most (Unvalued c) y)
 
 -- the fields are a code and two numbers
 pub fields_start : {s : List ℕ} (k : Fields) (p : Place) {d : Area} → p.at ≤ length s
@@ -294,10 +294,10 @@ module _ (s : List ℕ) (t : Parser Term) (k : Fields) where
 
     pub plain_counted : k.counted ≡ true → {f : Area} {n : ℕ} {u : Place} → ValueDone (ceiling ordinary) s (rising s (ceiling ordinary) 0 q.at) q e f (Valued n u)
         → SoFar s (row s t (plain k) p.at) (many s t (n + k.terms) u.at) p d f u
-    plain_counted z {f} {n} {u} y = into_read (ceiling ordinary) (count s q.at) (λ n. many s t (n + k.terms)) (counted z) (value_plain s q e f (ceiling ordinary) (Valued n u) y)
+    plain_counted z {f} {n} {u} y = into_read (ceiling ordinary) (count s q.at) (λ n. many s t (n + k.terms)) (counted z) (value_plain s q e f (ceiling ordinary) (ceiling ordinary) (Valued n u) y)
 
     pub plain_stop : k.counted ≡ true → (f : Area) {c : ℕ} → ValueDone (ceiling ordinary) s (rising s (ceiling ordinary) 0 q.at) q e f (Unvalued c) → PartsDone s (row s t (plain k) p.at) p d f (Stopped c)
-    plain_stop z f {c} y = into_refused (ceiling ordinary) (count s q.at) (λ n. many s t (n + k.terms)) (counted z) f (value_plain s q e f (ceiling ordinary) (Unvalued c) y)
+    plain_stop z f {c} y = into_refused (ceiling ordinary) (count s q.at) (λ n. many s t (n + k.terms)) (counted z) f (value_plain s q e f (ceiling ordinary) (ceiling ordinary) (Unvalued c) y)
 
     -- a plain row without terms is its fields
     pub plain_fields : termless k ≡ true → PartsDone s (row s t (plain k) p.at) p d e (Next q)

@@ -66,8 +66,8 @@ module _ {s : List ℕ} {p : Place} {d e : Area} where
 
 module _ (s : List ℕ) (p : Place) (d e : Area) where
   -- with nothing to rise above, a value is a number
-  pub value_plain : (most : ℕ) (r : ValueRead) → ValueDone most s (rising s most 0 p.at) p d e r → ValueDone most s (number s most p.at) p d e r
-  value_plain most r x = rw (← rising_any s most p.at) x
+  pub value_plain : (most m : ℕ) (r : ValueRead) → ValueDone most s (rising s m 0 p.at) p d e r → ValueDone most s (number s m p.at) p d e r
+  value_plain most m r x = rw (← rising_any s m p.at) x
 
 module _ (s : List ℕ) (p : Place) (d : Area) where
   pub variable_high : {issued v next : ℕ} → got v next ≡ rising s (ceiling ordinary) 0 (p.at + 1) → issued ≤ v → TermDone s (variable s issued (p.at + 1)) p d d (Stopped 6)

@@ -256,11 +256,11 @@ fixed_walk look (suc l) t (suc v) c p hl hv =
 -- ---- the nodes of a term, counted by its tokens
 
 -- of a kind
-unfoldable node_first : ℕ → ℕ
+unfoldable pub node_first : ℕ → ℕ
 node_first zero = 0
 node_first (suc k) = 1
 
-unfoldable nodes : List Item → ℕ
+unfoldable pub nodes : List Item → ℕ
 nodes [] = 0
 nodes (item k v ∷ l) = node_first k + nodes l
 

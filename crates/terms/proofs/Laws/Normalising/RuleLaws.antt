@@ -403,7 +403,7 @@ module _ {ks vs : List ℕ} {g : Option Origin} {hs cs : List ℕ} {x : Cursor} 
 
 module _ {ks vs : List ℕ} {g : Option Origin} {x : Cursor} {m : ℕ} (hs cs : List ℕ) (fuel : ℕ) (w : Rule) (h : MemberIn (view ks vs g) x m) where
   -- a rule with another member than the row's is not the row's
-  replaces_other : (w.member ≡ m → ⊥) → Missed ks vs g hs cs x fuel w
+  pub replaces_other : (w.member ≡ m → ⊥) → Missed ks vs g hs cs x fuel w
   replaces_other ne = record {
     is = λ S ps p f d k e. ne (k.member ∙ sym (h.is hs cs S ps f ∙ ap (λ (l : Parts). last_but_one 0 0 (nums l)) e ∙ left_member 0 0 p));
   }

@@ -367,7 +367,7 @@ module _ (ps qs : Parts) (a : NominalRow ps) (b : NominalRow qs) where
       ap members_of x.is ∙ ap (λ (l : List ℕ). take (get_or l 0 0) (drop 1 l)) (fit_drop x.count (shape.members shape.done) x.rest x.fit).1
 
   -- the numbers of what is left after the arguments tell whether the members are the same
-  members_alike : alike (drop_parts a.count a.rest) (drop_parts b.count b.rest) ≡ same_numbers (members_of ps) (members_of qs)
+  pub members_alike : alike (drop_parts a.count a.rest) (drop_parts b.count b.rest) ≡ same_numbers (members_of ps) (members_of qs)
   members_alike =
       alike_keys (drop_parts a.count a.rest) (drop_parts b.count b.rest) (fit_drop a.count (shape.members shape.done) a.rest a.fit).0 (fit_drop b.count (shape.members shape.done) b.rest b.fit).0
       ∙ ap (λ (l : List ℕ). same_numbers l (keys (drop_parts b.count b.rest))) (sym (members_keys ps a)) ∙ ap (λ (l : List ℕ). same_numbers (members_of ps) l) (sym (members_keys qs b))
@@ -384,20 +384,20 @@ module _ (ps qs : Parts) (a : NominalRow ps) (b : NominalRow qs) where
       go x y e f = rw (e, f)
 
   module _ (p : ℕ) where
-    reach_declaration : (a.declaration ≡ b.declaration → ⊥) → p + 1 ≡ p + 1 + upto (nominal_reach ps qs) ps
+    pub reach_declaration : (a.declaration ≡ b.declaration → ⊥) → p + 1 ≡ p + 1 + upto (nominal_reach ps qs) ps
     reach_declaration d = none_reached p (nominal_reach ps qs) ps (reached ∙ fails_first (eqb a.declaration b.declaration) (eqb a.count b.count) _ (ne_eqb a.declaration b.declaration d))
 
-    reach_count : (a.count ≡ b.count → ⊥) → p + 1 ≡ p + 1 + upto (nominal_reach ps qs) ps
+    pub reach_count : (a.count ≡ b.count → ⊥) → p + 1 ≡ p + 1 + upto (nominal_reach ps qs) ps
     reach_count d = none_reached p (nominal_reach ps qs) ps (reached ∙ fails_second (eqb a.declaration b.declaration) (eqb a.count b.count) _ (ne_eqb a.count b.count d))
 
     module _ (e : a.declaration ≡ b.declaration) (f : a.count ≡ b.count) where
       told : (m : Bool) → same_numbers (members_of ps) (members_of qs) ≡ m → nominal_reach ps qs ≡ pick m (parts ps) (2 + a.count)
       told m h = reached ∙ rw (eq-eqb a.declaration b.declaration e, eq-eqb a.count b.count f, h)
 
-      reach_all : (pe : ℕ) → same_numbers (members_of ps) (members_of qs) ≡ true → p + 1 + length (part_items ps) ≡ pe → pe ≡ p + 1 + upto (nominal_reach ps qs) ps
+      pub reach_all : (pe : ℕ) → same_numbers (members_of ps) (members_of qs) ≡ true → p + 1 + length (part_items ps) ≡ pe → pe ≡ p + 1 + upto (nominal_reach ps qs) ps
       reach_all pe h g = sym (ap (λ (c : ℕ). p + 1 + upto c ps) (told true h) ∙ ap (λ (c : ℕ). p + 1 + c) (upto_all ps) ∙ g)
 
-      reach_arguments : (i : ℕ) → same_numbers (members_of ps) (members_of qs) ≡ false → i ≡ p + 3 + upto a.count a.rest → i ≡ p + 1 + upto (nominal_reach ps qs) ps
+      pub reach_arguments : (i : ℕ) → same_numbers (members_of ps) (members_of qs) ≡ false → i ≡ p + 3 + upto a.count a.rest → i ≡ p + 1 + upto (nominal_reach ps qs) ps
       unfolding upto
       reach_arguments i h g =
           let u : upto (2 + a.count) ps ≡ 2 + upto a.count a.rest = ap (λ (x : Parts). upto (2 + a.count) x) a.is ∙ two a.declaration a.count a.rest ∙ omega arith in
@@ -887,7 +887,7 @@ module _ {ks vs : List ℕ} {pe : ℕ} {a b : Part} {out₀ out : List ℕ} {at 
         }
 
     -- terms in both rows: the first one recovered from the second, written
-    recover_both : {t u : Part} {c d m : ℕ} (l : FirstTerm ks vs x.left t c pe) (r : FirstTerm ks vs x.right u d b.end) → x.count ≡ suc m → a.end ≡ c + upto m l.rest
+    pub recover_both : {t u : Part} {c d m : ℕ} (l : FirstTerm ks vs x.left t c pe) (r : FirstTerm ks vs x.right u d b.end) → x.count ≡ suc m → a.end ≡ c + upto m l.rest
         → Subs Formed (sub l.term l.rest) → Subs Formed (sub r.term r.rest) → {out' : List ℕ} {o : ℕ} → Put out out' to o (bytes (recover_from l.term r.term))
         → Recovering ks vs c pe a.end d b.end out₀ out' at o whole
     unfolding Subs recover_from bytes
