@@ -124,7 +124,7 @@ pub record ChangesCounted (x y : Solver) (ts₀ ts : List ℕ) : Type 0 where
   pub quiet : y.revision ≡ x.revision → take (pending_from x) ts ≡ take (pending_from x) ts₀
 
 -- What a check leaves, where the definition leaves w: the solver, whether the pair is compatible so far, the pending pairs, in the words st.
--- t and u are the nodes whose children were pushed, if any were.
+-- What is lent behind the columns stays. t and u are the nodes whose children were pushed, if any were.
 pub record After (x : Solver) (ks vs ts₀ ts st₀ st : List ℕ) (s : Session) (t u : Term) (count : ℕ) (w : solving.Check) (r : Checked) : Type 0 where
   pub represents : Represents r.solver ks vs ts (with_solver s w.state)
   pub good : r.good ≡ w.good
@@ -133,6 +133,7 @@ pub record After (x : Solver) (ks vs ts₀ ts st₀ st : List ℕ) (s : Session)
   pub variables : r.solver.variables ≡ x.variables
   pub nodes : r.solver.nodes ≡ x.nodes
   pub size : length ts ≡ length ts₀
+  pub rest : drop (pending_from x) ts ≡ drop (pending_from x) ts₀
   pub pending_size : length st ≡ length st₀
   pub counted : ChangesCounted x r.solver ts₀ ts
 

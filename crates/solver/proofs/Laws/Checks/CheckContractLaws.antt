@@ -88,7 +88,7 @@ module _ {x : Solver} {ks vs ts : List ℕ} {s : Session} {v : ℕ} {q : ChainEn
   assign_bound e f g {y} {us} l d =
       let r = some_of (admit s.solver.requests (s.solver.requests v) t) f in
       after_bound x ks vs ts st s count ps F.represents W a b (bound_to s.solver v t r.0) (bind_bound s.solver v t ps r.0 e r.1 g) refl y us (l r.0 r.1)
-      d.variables d.nodes d.size
+      d.variables d.nodes d.size d.rest
 
 -- ---- two nodes
 

@@ -5,7 +5,7 @@ use mathlib.Core.List.{List}
 use mathlib.Core.Logic.{inl, inr}
 use Prim.Native.Nat.{ℕ, suc}
 use native.Mathlib.Omega.{arith}
-use lib.ListN.{length}
+use lib.ListN.{length, drop}
 use Rattle.terms.specs.Term.{Term}
 use Rattle.solver.specs.declared.Solver.{Solver}
 use Rattle.solver.specs.Shapes.{pushed}
@@ -14,7 +14,7 @@ use Rattle.solver.specs.Constrain.{Pair, passed, failed, zip_on}
 use Rattle.solver.specs.Session.{Session, with_solver}
 use Rattle.solver.specs.Words.SessionRepresentation.{Represents}
 use Rattle.solver.specs.Words.PendingContract.{PushedPairs}
-use Rattle.solver.specs.Words.ConstrainContract.{Waiting, Nodes, After}
+use Rattle.solver.specs.Words.ConstrainContract.{pending_from, Waiting, Nodes, After}
 
 -- ---- nothing was bound and nothing pushed
 
@@ -28,6 +28,7 @@ module _ (x : Solver) (ks vs ts st : List ℕ) (s : Session) (count : ℕ) (ps :
     variables = refl;
     nodes = refl;
     size = refl;
+    rest = refl;
     pending_size = refl;
     counted = record { rises = omega arith; quiet = λ e. refl };
   }
@@ -40,8 +41,9 @@ module _ (x : Solver) (ks vs ts st : List ℕ) (s : Session) (count : ℕ) (ps :
 
   -- a variable was bound: the columns changed
   pub after_bound : {w : solving.Check} (z : solving.Solver) → w ≡ passed z ps → z.revision ≡ suc s.solver.revision → (y : Solver) (us : List ℕ) → Represents y ks vs us (with_solver s z)
-      → y.variables ≡ x.variables → y.nodes ≡ x.nodes → length us ≡ length ts → After x ks vs ts us st st s t u count w (record { solver = y; good = true; count = count })
-  after_bound {w} z e more y us l a b c = record {
+      → y.variables ≡ x.variables → y.nodes ≡ x.nodes → length us ≡ length ts → drop (pending_from x) us ≡ drop (pending_from x) ts
+      → After x ks vs ts us st st s t u count w (record { solver = y; good = true; count = count })
+  after_bound {w} z e more y us l a b c d = record {
     represents = subst (λ (q : solving.Solver). Represents y ks vs us (with_solver s q)) (sym (ap (λ (v : solving.Check). v.state) e)) l;
     good = sym (ap (λ (v : solving.Check). v.good) e);
     waiting = subst (λ (r : List Pair). Waiting ks vs st count r) (sym (ap (λ (v : solving.Check). v.todo) e)) waits;
@@ -49,6 +51,7 @@ module _ (x : Solver) (ks vs ts st : List ℕ) (s : Session) (count : ℕ) (ps :
     variables = a;
     nodes = b;
     size = c;
+    rest = d;
     pending_size = refl;
     counted = record { rises = omega (arith, l.revision, lent.revision); quiet = λ q. absurd (omega (arith, l.revision, lent.revision)) };
   }
@@ -67,6 +70,7 @@ module _ (x : Solver) (ks vs ts st : List ℕ) (s : Session) (count : ℕ) (ps :
     variables = refl;
     nodes = refl;
     size = refl;
+    rest = refl;
     pending_size = c;
     counted = record { rises = omega arith; quiet = λ e. refl };
   }
