@@ -82,7 +82,7 @@ module _ {s : List ℕ} (octets : Octets s) {ws : List Rule} (us : List Rule) {i
   others = drop (i + 1) l
 
   -- the fields read are fewer than five
-  through_index : i < 5
+  pub through_index : i < 5
   through_index = omega (arith, x.layout.few, sorts_long f c)
 
   whole_split : fields.fields s issued l p.at

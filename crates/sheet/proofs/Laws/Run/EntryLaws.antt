@@ -100,7 +100,7 @@ at_from l n j h =
     ap (λ (i : ℕ). get_or l i 0) e ∙ sym (get_or-drop n l (j - n) 0)
 
 -- the words that were put back from a position on
-tail_back : (n : ℕ) (l us : List ℕ) → n ≤ length l → drop n (put_mid n (length l - n) l us) ≡ us
+pub tail_back : (n : ℕ) (l us : List ℕ) → n ≤ length l → drop n (put_mid n (length l - n) l us) ≡ us
 tail_back n l us h =
     drop_at (take n l) (us ++ post_of n (length l - n) l) n (length-take-le n l h)
     ∙ ap (λ (k : List ℕ). us ++ k) (Post-is n (length l) l h ∙ drop-length l) ∙ append-nil us

@@ -174,7 +174,7 @@ module _ (par par' : List ℕ) (g : Keeps par par') where
 
 -- ---- what a token says of a held term
 
-as_var : (ks vs : List ℕ) (p : ℕ) (t : Term) → Held ks vs p t → get_or ks p 0 < 2 → t ≡ var (get_or vs p 0)
+pub as_var : (ks vs : List ℕ) (p : ℕ) (t : Term) → Held ks vs p t → get_or ks p 0 < 2 → t ≡ var (get_or vs p 0)
 unfolding head_kind head_value
 as_var ks vs p (var v) h e = ap var (sym (held_first ks vs p (var v) h).1)
 as_var ks vs p (node k ps) h e = absurd (omega (arith, (held_first ks vs p (node k ps) h).0))
@@ -267,10 +267,10 @@ module _ (σ : ℕ → Term) (τ : Term → Term) (s : Standing σ τ) where
     pub told_kinds : (get_or ks a 0 ≡ get_or ks b 0 → ⊥) → Says par false
     told_kinds h = record { fair = fair; yes = never_true; honest = λ ho e. absurd (h (alike_at e).0) }
 
-    told_apart : get_or ks a 0 < 2 → (get_or vs a 0 ≡ get_or vs b 0 → ⊥) → Says par false
+    pub told_apart : get_or ks a 0 < 2 → (get_or vs a 0 ≡ get_or vs b 0 → ⊥) → Says par false
     told_apart k h = record { fair = fair; yes = never_true; honest = λ ho e. absurd (h ((alike_at e).1 k)) }
 
-    told_var : get_or ks a 0 < 2 → get_or ks a 0 ≡ get_or ks b 0 → get_or vs a 0 ≡ get_or vs b 0 → Says par true
+    pub told_var : get_or ks a 0 < 2 → get_or ks a 0 ≡ get_or ks b 0 → get_or vs a 0 ≡ get_or vs b 0 → Says par true
     told_var k l h = record {
       fair = fair;
       yes = λ _. same_var (get_or vs a 0) (as_var ks vs a (τ t) ha k) (as_var ks vs b (τ u) hb (omega arith) ∙ ap var (sym h));

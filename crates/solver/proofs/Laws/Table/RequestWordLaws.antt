@@ -456,7 +456,7 @@ module _ (own e : ℕ) (o : Option Request) (W : RequestWord own) (E : AtEnd own
   range_took = E.ranged ∙ ap₂ ◌||◌ (ap (λ (r : Request). r.ranged) (in_parts own W)) (ap (λ (r : Request). r.ranged) (in_parts e E.word))
 
   -- what is admitted
-  end_admits : (c : ℕ) → admits (family_at (request_in own) o) c ≡ bit (mask_in e) c
+  pub end_admits : (c : ℕ) → admits (family_at (request_in own) o) c ≡ bit (mask_in e) c
   end_admits c = ap (λ (f : Family). admits f c) E.family ∙ word_admits e E.word c
 
   fallback_is : (request_in own).fallback ≡ (own - 1) % 32

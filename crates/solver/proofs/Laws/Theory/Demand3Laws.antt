@@ -130,6 +130,11 @@ member_belongs r t m =
 pub true_view : (θ : ℕ → Term) (f : ℕ → Option Request) → RespectsFamilies θ f → meaning.True S (viewing θ) f
 true_view θ f p v r e = belongs_member r (θ v) (p v r e)
 
+view_true : (θ : ℕ → Term) (f : ℕ → Option Request) → meaning.True S (viewing θ) f → RespectsFamilies θ f
+view_true θ f p v r e =
+    let x = member_belongs r (view (θ v)) (p v r e) in
+    ap (belongs r.family) (view_injective (θ v) x.0 x.1) ∙ x.2
+
 -- ---- assignments
 
 assigns_view : (N : ℕ) (θ : ℕ → Term) → Assigns N θ → theirs.Assigns S N (viewing θ)
