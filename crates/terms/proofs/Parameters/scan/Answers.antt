@@ -1,5 +1,8 @@
 -- One parameter more, or a refusal, or the end.
-use Rattle.std.proofs.Common.{◌∙◌, refl, arith}
+use mathlib.Core.Bool.{Bool}
+use mathlib.Core.Path.{ap}
+use Rattle.std.proofs.Common.{◌∙◌, arith, Some}
+use Rattle.terms.specs.Result.{pick}
 use Rattle.std.proofs.lemmas.Result.{err_from_is_err_and}
 use Rattle.terms.specs.Questions.{same_parameter}
 use Rattle.terms.proofs.Laws.Format.ParameterLaws.{pass_end, pass_stop, pass_more}
@@ -18,9 +21,10 @@ loop-n-preserved c =
     let a = c.args in
     let l = c.loop-n in
     let more = pass_more a.self.now.bytes.now a.wanted a.self.now.count l.n l.i l.best c.loop-n-test.true _ _ c.in_ok-read.ensures c.if-eq.best in
+    let told = λ (same : Bool). pick same (Some l.n) l.best in
     elim c.if-eq.branch [
-      | then-eq w ↦ more (rw (w.best-is, ← w.if-eq.ensures {u = tt}) refl) ∙ l.invariant
-      | else-eq w ↦ more (rw (w.best-is, ← w.if-eq.ensures {u = tt}) refl) ∙ l.invariant
+      | then-eq w ↦ more (w.best-is ∙ ap told (w.if-eq.ensures {u = tt})) ∙ l.invariant
+      | else-eq w ↦ more (w.best-is ∙ ap told (w.if-eq.ensures {u = tt})) ∙ l.invariant
     ]
 
 pub returns : goal.returns
