@@ -26,13 +26,18 @@ impl<'a> Iterator for RowWalk<'a> {
     ghost remaining = { λ s. at_most (s.end - s.at) };
 
     #[inline(always)]
+    #[tactic(auto, unfolding(crate::specs::Words::Held::span))]
     fn next(&mut self) -> Option<(usize, Token)> {
         let at = self.at;
         if self.end <= at {
             return None;
         }
         let token = self.seen.token(at);
-        self.at += token.step();
+        if token.kind == 0 {
+            self.at += 1;
+        } else {
+            self.at += token.step();
+        }
         Some((at, token))
     }
 }

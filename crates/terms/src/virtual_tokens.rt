@@ -50,7 +50,7 @@ pub fn locate(given: Option<Origin>, len: usize, q: usize) -> Spot
 
 impl<'a> Seen<'a> {
     // The token at q, wherever it is from.
-    #[inline(never)]
+    #[inline(always)]
     fn located_token(&self, q: usize) -> Token
         ensures kind { result.kind ≡ get_or (shown self.now).kinds q 0 }
         ensures value { result.value ≡ get_or (shown self.now).vals q 0 }
