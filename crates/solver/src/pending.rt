@@ -172,7 +172,9 @@ pub fn push_part(
     }
 }
 
-// Puts the children of the nodes at a and b on in pairs, those with an index from lo up to hi.
+// Puts the children of the nodes at a and b on in pairs, those with an index from lo up to hi. It is taken into each of its calls, where lo or hi is known:
+// apart, checks of short rows, as in a sheet of 200 levels of Sets, took 7% more instructions.
+#[inline(always)]
 pub fn push_range(
     tokens: &Tokens,
     a: usize,
