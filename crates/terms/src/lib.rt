@@ -158,6 +158,29 @@ impl Place {
     {
         self.nodes <= self.limit
     }
+
+    // The next token and the nodes. It is no more than two loads, and it is called: `moved` says why.
+    #[inline(never)]
+    fn tokens_and_nodes(&self) -> (usize, usize)
+        ensures { result ≡ (self.now.top, self.now.nodes) }
+    {
+        (self.top, self.nodes)
+    }
+
+    // The same place. It is copied by parts of 8 bytes, as these were stored just before: moved by 16 bytes, which is what a compiler makes of the copy of a
+    // whole place and of parts that lie side by side, each half waits until its two stores are done, and an order with many rules was read 1.5 times as slowly.
+    #[inline(always)]
+    fn moved(&self) -> Place
+        ensures { result ≡ self.now }
+    {
+        let (top, nodes) = self.tokens_and_nodes();
+        Place {
+            at: self.at,
+            top,
+            nodes,
+            limit: self.limit,
+        }
+    }
 }
 
 // What a term reader is asked for: a term, or a bare nominal.

@@ -48,14 +48,16 @@ fn read_records(
     ensures { PartsDone s.now (list_at s.now w count place.old.at) place.old
         (area kinds.old vals.old) (area kinds.new vals.new) (step_of result place.new) }
 {
+    let start = place.moved();
     let mut reader = TermReader {
         bytes: s,
-        place: *place,
+        place: start,
     };
     for _ in 0..count {
         reader.next_record(kinds, vals, w)?;
     }
-    *place = reader.place;
+    let end = reader.place.moved();
+    *place = end;
     Ok(())
 }
 
@@ -76,7 +78,7 @@ fn keep_records(
     ensures room { Room s.now place.new }
     ensures back { OnErr result (place.new ≡ place.old) }
 {
-    let first = *place;
+    let first = place.moved();
     let outcome = read_records(s, kinds, vals, place, w, count);
     settle(kinds, vals, first, s.len() - first.at, outcome, place)
 }

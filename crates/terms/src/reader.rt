@@ -87,9 +87,11 @@ pub fn part_at(
 {
     let mut reader = TermReader {
         bytes: s,
-        place: *place,
+        place: place.moved(),
     };
     let outcome = reader.next_part(kinds, vals, wanted, levels, issued);
-    *place = reader.place;
+    if outcome.is_ok() {
+        *place = reader.place.moved();
+    }
     outcome
 }

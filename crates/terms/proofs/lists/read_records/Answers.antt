@@ -7,7 +7,7 @@ use Rattle.terms.proofs.lists.read_records.Goals as goal
 use native.Mathlib.Nat.{sub-zero}
 
 pub loop-init : goal.loop-init
-loop-init c = record { bytes = refl; along = rw (sub-zero c.args.count) (so_far_start c.requires.inside) }
+loop-init c = record { bytes = refl; along = rw (sub-zero c.args.count, c.moved-start.ensures) (so_far_start c.requires.inside) }
 
 pub loop-preserved : goal.loop-preserved
 loop-preserved c =
@@ -23,4 +23,4 @@ returns-in_err-next_record c =
     rw (handed_on _ _ c.from_residual.ensures.1) (records_refused _ _ _ l.invariant.along (omega arith) _ (rw l.invariant.bytes at c.in_err-next_record.ensures.done))
 
 pub returns : goal.returns
-returns c = records_end _ _ _ c.loop.invariant.along (omega arith)
+returns c = rw c.moved-end.ensures (records_end _ _ _ c.loop.invariant.along (omega arith))
