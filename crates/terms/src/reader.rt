@@ -91,7 +91,7 @@ pub fn part_at(
     };
     let outcome = reader.next_part(kinds, vals, wanted, levels, issued);
     if outcome.is_ok() {
-        *place = reader.place.moved();
+        *place = reader.place.moved_on();
     }
     outcome
 }
