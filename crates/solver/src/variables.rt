@@ -24,7 +24,7 @@ pub fn is_place(asked: PlaceWords, words: PlaceWords) -> bool
 }
 
 // The last variable whose words are those asked for. Where no variable has the site there is none. It is taken into its callers, which know the kind: apart,
-// it asked at each step whether slots count, and a place issued long ago took two thirds more instructions.
+// it asked at each step whether slots count, and a place issued long ago took 45% more instructions.
 #[inline(always)]
 pub fn find_place(table: &Table, issued: usize, asked: PlaceWords) -> Option<usize>
     requires { issued ≤ table.now.variables }
